@@ -1,14 +1,14 @@
 -- What the records of a run tell of how often a message is delivered, forwarded and returned.
-use Rattle.std.specs.Prelude.{◌≡◌, ℕ, ◌+◌, ◌≤◌, true, false, if◌then◌else◌, List, [], ◌∷◌, ◌++◌, length, map}
+use Rattle.std.specs.Prelude.{◌≡◌, ℕ, ◌+◌, ◌≤◌, ◌||◌, true, false, if◌then◌else◌, List, [], ◌∷◌, ◌++◌, map}
 use Rattle.std.specs.Bool.{⊤}
 use Rattle.xk_base.specs.declared.ids.Number.{Number}
-use Rattle.xk_base.specs.declared.ids.ThreadId.{ThreadId}
 use Rattle.xk_base.specs.declared.records.Rec.{Rec}
 use Rattle.xk_base.specs.declared.records.What.{What}
 use Rattle.isolation_laws.specs.TwoRuns.{records_of}
-use Rattle.machine_model.specs.Runs.Moments.{Moment, state_at}
+use Rattle.machine_model.specs.Runs.Moments.{Moment}
 use Rattle.machine_model.specs.State.Machine.{Machine}
-use Rattle.message_laws.specs.Following.{Held, Over, Queued, Standing, Stands, Unsent, is_delivery_of, is_forward_of, is_return_of, moves}
+use Rattle.message_laws.specs.Following.{Held, Over, Queued, Standing, Stands, Unsent, is_delivery_of, is_forward_of}
+use Rattle.message_laws.specs.Following.{is_last_delivery_of, is_return_of, moves}
 
 -- ---- counts
 
@@ -63,15 +63,15 @@ pub record AreDeliveriesOnce (number : Number) (told : List What) (first : Stand
   -- it is delivered at most once for its send and once for each forward
   pub deliveries : deliveries_in number told ≤ due first + forwards_in number told
   -- it is forwarded or returned at most once for each delivery
-  pub in_hand : forwards_in number told + returns_in number told ≤ in_hand first + deliveries_in number told
+  pub passed_on : forwards_in number told + returns_in number told ≤ in_hand first + deliveries_in number told
   -- it is returned at most once
   pub returns : returns_in number told ≤ 1
   -- between two deliveries stands a forward
   pub between : (before between later : List What) (one two : What) → told ≡ before ++ (one ∷ between ++ (two ∷ later))
       → is_delivery_of number one ≡ true → is_delivery_of number two ≡ true → HasForward number between (two ∷ later)
-  -- and behind a return stands nothing more of it
-  pub ended : (before later : List What) (what : What) → told ≡ before ++ (what ∷ later) → is_return_of number what later ≡ true
-      → IsSilent number later
+  -- and behind a return, or the delivery of a message without an answer, stands nothing more of it
+  pub ended : (before later : List What) (what : What) → told ≡ before ++ (what ∷ later)
+      → (is_return_of number what later || is_last_delivery_of number what) ≡ true → IsSilent number later
 
 abbrev pub DeliveredOnce : Machine → List Moment → Type 0
 DeliveredOnce start moments =

@@ -1,5 +1,6 @@
 -- What the records of a run tell of one message: when it is delivered, forwarded and returned, and when it is forgotten.
-use Rattle.std.specs.Prelude.{◌≡◌, ℕ, ◌+◌, ◌<◌, ◌≤◌, ◌⊎◌, ◌==◌, Bool, true, false, ◌&&◌, ◌||◌, if◌then◌else◌, List, [], ◌∷◌, ◌++◌, length, map, slice_index}
+use Rattle.std.specs.Prelude.{◌≡◌, ℕ, ◌<◌, ◌≤◌, ◌==◌, Bool, true, false, ◌&&◌, ◌||◌, if◌then◌else◌, not, List, [], ◌∷◌, length, map}
+use Rattle.std.specs.Prelude.{slice_index}
 use Rattle.std.specs.Prelude.{Option, Some, None}
 use Rattle.std.specs.List.{list_any}
 use Rattle.std.specs.Option.{option_map_or, option_or}
@@ -89,6 +90,11 @@ abbrev pub is_delivery_of : Number → What → Bool
 is_delivery_of number (Reply who words) = is_message_of number words
 is_delivery_of number _ = false
 
+-- .. and has no answer
+abbrev pub is_last_delivery_of : Number → What → Bool
+is_last_delivery_of number (Reply who words) = is_message_of number words && not (is_waiting_kind (slice_index words 2))
+is_last_delivery_of number _ = false
+
 -- how it stands then: a message that is to be answered is held, and any other is over
 abbrev pub left_by : List ℕ → Standing
 left_by words = if is_waiting_kind (slice_index words 2) then Held else Over
@@ -104,7 +110,8 @@ is_return_call call = (call == return_memory) || ((call == return_scalar1) || (c
 
 -- a server's thread returns it
 abbrev pub is_return_of : Number → What → List What → Bool
-is_return_of number (Call who words) later = is_return_call (call_number words) && ((return_token words == number.0) && is_served_by who later)
+is_return_of number (Call who words) later =
+    is_return_call (call_number words) && ((return_token words == number.0) && is_served_by who later)
 is_return_of number _ later = false
 
 -- a call that sends: it may be the one that is accepted with the number

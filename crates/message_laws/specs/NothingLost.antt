@@ -1,25 +1,18 @@
 -- Where each message is in the end.
-use Rattle.std.specs.Prelude.{◌≡◌, ℕ, ◌<◌, ◌⊎◌, Bool, true, false, ◌&&◌, ◌||◌, not, List, ◌∷◌, ◌++◌, length, map, slice_index}
+use Rattle.std.specs.Prelude.{◌≡◌, ◌<◌, ◌⊎◌, Bool, true, ◌||◌, List, ◌∷◌, ◌++◌, length, map}
 use Rattle.xk_base.specs.declared.ids.Number.{Number}
 use Rattle.xk_base.specs.declared.records.Rec.{Rec}
 use Rattle.xk_base.specs.declared.records.What.{What}
-use Rattle.xk_base.specs.declared.records.What.TheVariants.{Reply}
-use Rattle.xk_base.specs.Calls.Kinds.{is_waiting_kind}
 use Rattle.isolation_laws.specs.TwoRuns.{records_of}
 use Rattle.machine_model.specs.Runs.Moments.{Moment, state_at}
 use Rattle.machine_model.specs.State.Machine.{Machine}
-use Rattle.message_laws.specs.Following.{Held, Over, Queued, Standing, Stands, is_end_in, is_message_of, is_return_of}
+use Rattle.message_laws.specs.Following.{Held, Over, Queued, Standing, Stands, is_end_in, is_last_delivery_of, is_return_of}
 
 -- the message stands in exactly one way
 pub record StandsOnce (number : Number) (m : Machine) : Type 0 where
   pub standing : Standing
   pub stands : Stands number m standing
   pub only : (other : Standing) → Stands number m other → other ≡ standing
-
--- it is delivered, and has no answer
-abbrev pub is_last_delivery_of : Number → What → Bool
-is_last_delivery_of number (Reply who words) = is_message_of number words && not (is_waiting_kind (slice_index words 2))
-is_last_delivery_of number _ = false
 
 -- a record with those behind it can end the message: it is returned, it is delivered and has no answer, or a server or a process ends
 abbrev pub is_ending_of : Number → What → List What → Bool

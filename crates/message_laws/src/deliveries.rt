@@ -21,8 +21,8 @@ pub fn messages_follow()
 {}
 
 /// **Each message is delivered at most once for its send and once for each forward, and ended at most once.** Between two deliveries of a
-/// message stands a forward of it that was served, and behind a return that was served stands no delivery, no such forward and no such
-/// return of it.
+/// message stands a forward of it that was served. Behind a return that was served, or the delivery of a message without an answer,
+/// stands nothing more of it.
 pub fn messages_are_delivered_once()
     ensures runs { (start : Machine) (moments : List Moment) → Matched start → IsRun start moments → DeliveredOnce start moments }
     ensures histories { (events : List Event) (limit : ℕ) (start : Machine) → Matched start

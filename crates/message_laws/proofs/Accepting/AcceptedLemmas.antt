@@ -1,6 +1,5 @@
 -- Over a run: numbers climb, and each is that of one accepted send.
-use Rattle.std.proofs.Common.{◌≡◌, ℕ, zero, suc, ◌+◌, ◌<◌, ◌≤◌, ◌⊎◌, inl, inr, List, [], ◌∷◌, length, Some, refl, sym, ap, ◌∙◌, subst, arith}
-use Rattle.std.specs.Prelude.{slice_get}
+use Rattle.std.proofs.Common.{◌≡◌, ℕ, zero, suc, ◌+◌, ◌<◌, ◌≤◌, ◌⊎◌, inl, inr, List, [], ◌∷◌, length, refl, sym, ap, ◌∙◌, subst, arith}
 use Rattle.std.proofs.lemmas.Bool.{cases_lt}
 use Rattle.std.proofs.lemmas.Option.{none-some, same_Some, slice_get_past}
 use Rattle.xk_base.specs.declared.events.Event.{Event}
@@ -8,7 +7,7 @@ use Rattle.xk_base.specs.declared.ids.Number.{Number}
 use Rattle.machine_history.specs.HistoryMoments.{moments_of}
 use Rattle.machine_history.proofs.Histories.MomentLemmas.{history_is_run}
 use Rattle.machine_model.specs.Messaging.Messages.{new_number}
-use Rattle.machine_model.specs.Runs.Moments.{IsRun, Moment, caused, moment_of, state_at}
+use Rattle.machine_model.specs.Runs.Moments.{IsRun, Moment, caused, state_at}
 use Rattle.machine_model.specs.State.Machine.{Machine}
 use Rattle.message_laws.specs.Accepting.{AcceptedOnce, Accepts, AcceptsAt, GivesNumbers}
 use Rattle.message_laws.proofs.Accepting.GivenLemmas.{cause_gives}

@@ -1,52 +1,41 @@
 -- What each cause makes of the next message number.
-use Rattle.std.proofs.Common.{◌≡◌, ℕ, ◌+◌, ◌⊎◌, inl, inr, Bool, true, false, List, [], Option, Some, None, refl, sym, ap, ◌∙◌, subst, arith}
-use Rattle.std.specs.Bool.{⊤}
-use Rattle.std.specs.Prelude.{is_some}
-use Rattle.std.proofs.lemmas.Bool.{false≢true}
-use Rattle.std.proofs.lemmas.Option.{none-some, same_Some}
+use Rattle.std.proofs.Common.{◌≡◌, ℕ, ◌+◌, ◌⊎◌, inl, inr, Bool, true, false, List, [], Option, Some, None, refl, sym, ap, ◌∙◌, subst}
+use Rattle.std.proofs.lemmas.Bool.{false≢true, eqb-true}
+use Rattle.std.specs.Prelude.{◌==◌, ◌||◌, if◌then◌else◌}
 use Rattle.xk_base.specs.declared.ids.Number.{Number}
 use Rattle.xk_base.specs.declared.ids.Pid.{Pid}
 use Rattle.xk_base.specs.declared.ids.ThreadId.{ThreadId}
 use Rattle.xk_base.specs.Calls.CallWords.{call_number}
 use Rattle.xk_base.specs.Calls.Registers.{arguments_of, reg_at}
+use Rattle.xk_base.specs.Calls.CallNumbers.{send_message, try_send_message}
 use Rattle.machine_model.specs.Calling.Calls.{call}
-use Rattle.machine_model.specs.Ending.Closing.{any_server, closed, senders_held_gone, senders_queued_gone, servers_closed}
+use Rattle.machine_model.specs.Ending.Closing.{closed, senders_held_gone, senders_queued_gone, servers_closed}
 use Rattle.machine_model.specs.Ending.Ends.{death, end_with_last_thread, forgotten, handler_ended, has_threads, thread_ended}
 use Rattle.machine_model.specs.Hart.Instructions.{CallsKernel, Executed, Next, Stores, StoresToConsole, StoresToTimer, Traps}
 use Rattle.machine_model.specs.Messaging.Messages.{new_number}
-use Rattle.machine_model.specs.Runs.LoanSpan.{IsServedCallOf, is_send}
-use Rattle.machine_model.specs.Runs.Moments.{ByIrq, ByKill, ByPick, ByStep, ByTurn, Cause, Moment, caused, moment_of}
+use Rattle.machine_model.specs.Runs.LoanSpan.{is_send}
+use Rattle.machine_model.specs.Runs.Moments.{ByIrq, ByKill, ByPick, ByStep, ByTurn, Cause, caused, moment_of}
 use Rattle.machine_model.specs.State.Changes.{Change, Outcome, Refused, Retried, Served, call_settled, settled}
-use Rattle.machine_model.specs.State.Machine.{Claim, Machine, Thread}
+use Rattle.machine_model.specs.State.Machine.{Claim, Machine, Thread, Idle}
 use Rattle.machine_model.specs.State.Order.{actor, turn}
-use Rattle.machine_model.specs.State.Threads.{put_thread}
+use Rattle.machine_model.specs.State.Threads.{put_thread, change_thread, thread_id, with_state}
 use Rattle.machine_model.specs.State.Views.{stored, timer_set}
-use Rattle.machine_model.specs.Stepping.Acts.{call_by, executes, is_call_served, is_served}
+use Rattle.machine_model.specs.Stepping.Acts.{call_by, is_call_served, is_served, is_call as calls_kernel}
 use Rattle.machine_model.specs.Stepping.Events.{killed, killed_if, picked, raised, raised_if}
-use Rattle.machine_model.specs.Stepping.Interrupts.{pended}
+use Rattle.machine_model.specs.Stepping.Interrupts.{pended, delivered, delivered_lowest, handler_started, is_free_for_interrupt, lowest_pending}
 use Rattle.machine_model.specs.Stepping.Reservations.{unreserved}
 use Rattle.machine_model.specs.Stepping.Step.{acted, executed, ends_handler, performed, step}
+use Rattle.machine_model.specs.Messaging.SendCalls.{sender_left}
 use Rattle.machine_model.proofs.Runs.TimerLemmas.{pended_raised}
 use Rattle.machine_model.proofs.StepLemmas.{no_step}
 use Rattle.machine_laws.proofs.Stepping.StepKindLemmas.{Executes, HandlerEnds, StepKind, ThreadEnds, acted_as_executed, is_call, kind_of}
 use Rattle.machine_laws.proofs.Threading.ThreadStepLemmas.{then_acted, turned_to}
-use Rattle.call_effects.specs.Footprints.{NumberPart, footprint, names}
-use Rattle.call_effects.specs.Rows.MessageRows.{send_row, try_send_row}
+use Rattle.call_effects.specs.Footprints.{NumberPart, footprint, names, Part}
 use Rattle.call_effects.proofs.PartLemmas.{OfChanging, of_parts}
 use Rattle.call_effects.proofs.RowLemmas.{◌also◌}
-use Rattle.call_effects.proofs.ServedLemmas.{OfServed, done}
-use Rattle.message_laws.specs.Accepting.{Accepts, GivesNumbers}
-use Rattle.machine_model.specs.Messaging.SendCalls.{sender_left}
-use Rattle.machine_model.specs.State.Threads.{change_thread, thread_id, with_registers, with_state}
-use Rattle.machine_model.specs.State.Machine.{Idle}
-use Rattle.machine_model.specs.Stepping.Interrupts.{delivered, delivered_lowest, handler_started, is_free_for_interrupt, lowest_pending}
+use Rattle.call_effects.proofs.ServedLemmas.{OfServed}
 use Rattle.span_laws.proofs.Fates.LikeLemmas.{call_like, like_raised, served_like, settled_like, step_like}
-use Rattle.std.specs.Prelude.{◌==◌, ◌||◌, if◌then◌else◌}
-use Rattle.std.proofs.lemmas.Bool.{eqb-true}
-use Rattle.xk_base.specs.declared.errors.XousError.{XousError}
-use Rattle.xk_base.specs.Calls.CallNumbers.{send_message, try_send_message}
-use Rattle.call_effects.specs.Footprints.{Part}
-use Rattle.machine_model.specs.Stepping.Acts.{is_call as calls_kernel}
+use Rattle.message_laws.specs.Accepting.{Accepts, GivesNumbers}
 
 -- ---- calls
 

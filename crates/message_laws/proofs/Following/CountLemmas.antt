@@ -1,7 +1,6 @@
 -- What the records say of a message, counted: it is delivered once for its send and once for each forward, and returned once.
-use Rattle.std.proofs.Common.{◌≡◌, ◌≢◌, ℕ, ◌+◌, ◌≤◌, ◌⊎◌, inl, inr, Bool, true, false, List, [], ◌∷◌, ◌++◌, length, map, refl, sym, ap, ◌∙◌, subst, arith}
-use Rattle.std.specs.Prelude.{◌==◌, ◌&&◌, ◌||◌, if◌then◌else◌, slice_index}
-use Rattle.std.specs.Bool.{⊤}
+use Rattle.std.proofs.Common.{◌≡◌, ℕ, ◌+◌, ◌≤◌, ◌⊎◌, inl, inr, Bool, true, false, List, [], ◌∷◌, ◌++◌, length, map, refl, sym, ap, ◌∙◌, subst, arith}
+use Rattle.std.specs.Prelude.{◌==◌, ◌&&◌, ◌||◌, if◌then◌else◌, not, slice_index}
 use Rattle.std.proofs.lemmas.Bool.{and_parts, eqb-true, false≢true, or_parts}
 use Rattle.xk_base.specs.declared.events.Event.{Event}
 use Rattle.xk_base.specs.declared.ids.Number.{Number}
@@ -15,14 +14,13 @@ use Rattle.xk_base.specs.Calls.Kinds.{is_waiting_kind}
 use Rattle.isolation_laws.specs.TwoRuns.{records_of}
 use Rattle.machine_history.specs.HistoryMoments.{moments_of}
 use Rattle.machine_history.proofs.Histories.MomentLemmas.{history_is_run}
-use Rattle.machine_model.specs.Runs.LoanSpan.{is_send}
 use Rattle.machine_model.specs.Runs.Matched.{Matched}
 use Rattle.machine_model.specs.Runs.Moments.{IsRun, Moment, state_at}
 use Rattle.machine_model.specs.State.Machine.{Machine}
 use Rattle.machine_model.proofs.Matching.CountLemmas.{one_if}
 use Rattle.machine_laws.proofs.Stepping.EveryStepLemmas.{every_cause_keeps}
 use Rattle.message_laws.specs.DeliveredOnce.{AreDeliveriesOnce, DeliveredOnce, HasForward, IsSilent, deliveries_in, due, forwards_in, in_hand, returns_in}
-use Rattle.message_laws.specs.Following.{Accepted, Delivered, Forwarded, Held, LostHeld, LostQueued, Over, Queued, Returned, Says, SayInTurn, Standing, Stands, Stays, Unsent, is_delivery_of, is_end_in, is_forward_of, is_message_of, is_return_call, is_return_of, is_send_in, is_served_by, left_by, moves}
+use Rattle.message_laws.specs.Following.{Accepted, Delivered, Forwarded, Held, LostHeld, LostQueued, Over, Queued, Returned, Says, SayInTurn, Standing, Stays, Unsent, is_delivery_of, is_end_in, is_forward_of, is_last_delivery_of, is_message_of, is_return_call, is_return_of, is_send_in, is_served_by, left_by, moves}
 use Rattle.message_laws.proofs.Following.StandLemmas.{some_standing}
 use Rattle.message_laws.proofs.Following.StepLemmas.{run_leads}
 
@@ -300,6 +298,38 @@ module _ (number : Number) where
   return_ends what later _ _ (LostHeld _ _ e) r = refl
   return_ends what later _ _ (Stays _ _ a e) r = absurd (false≢true (sym (still_only what later e).returned ∙ r))
 
+  last_delivery_ends : (what : What) (later : List What) (a b : Standing) → Says number what later a b → is_last_delivery_of number what ≡ true → b ≡ Over
+  last_delivery_ends (Call who words) later a b says l = absurd (false≢true l)
+  last_delivery_ends (Reply who words) later a b says l = go a b says (and_parts (is_message_of number words) (not (is_waiting_kind (slice_index words 2))) l)
+    where
+      go : (a b : Standing) → Says number (Reply who words) later a b
+          → (is_message_of number words ≡ true) × (not (is_waiting_kind (slice_index words 2)) ≡ true) → b ≡ Over
+      go _ _ (Accepted _ _ e) parts = absurd (false≢true e)
+      go _ _ (Delivered _ _ _ e) parts = by (is_waiting_kind (slice_index words 2)) parts.1
+        where
+          by : (b : Bool) → not b ≡ true → (if b then Held else Over) ≡ Over
+          by true q = absurd (false≢true q)
+          by false q = refl
+      go _ _ (Forwarded _ _ e) parts = absurd (false≢true e)
+      go _ _ (Returned _ _ e) parts = refl
+      go _ _ (LostQueued _ _ e) parts = refl
+      go _ _ (LostHeld _ _ e) parts = refl
+      go _ _ (Stays _ _ a e) parts = absurd (false≢true (sym (still_only (Reply who words) later e).delivery ∙ parts.0))
+  last_delivery_ends (Retry who) later a b says l = absurd (false≢true l)
+  last_delivery_ends (Byte who byte) later a b says l = absurd (false≢true l)
+  last_delivery_ends (Fault who cause value) later a b says l = absurd (false≢true l)
+  last_delivery_ends (End who) later a b says l = absurd (false≢true l)
+  last_delivery_ends (Irq pid k) later a b says l = absurd (false≢true l)
+  last_delivery_ends (Gone pid) later a b says l = absurd (false≢true l)
+
+  last_ends : (what : What) (later : List What) (a b : Standing) → Says number what later a b
+      → (is_return_of number what later || is_last_delivery_of number what) ≡ true → b ≡ Over
+  last_ends what later a b says e = go (is_return_of number what later) refl e
+    where
+      go : (r : Bool) → is_return_of number what later ≡ r → (r || is_last_delivery_of number what) ≡ true → b ≡ Over
+      go true r l = return_ends what later a b says r
+      go false r l = last_delivery_ends what later a b says l
+
   -- ---- all
 
   pub told_once : (told : List What) (a b : Standing) → SayInTurn number told a b → AreDeliveriesOnce number told a
@@ -312,7 +342,7 @@ module _ (number : Number) where
       let once : lives a ≤ 1 = lives_once a in
       record {
         deliveries = omega arith;
-        in_hand = omega arith;
+        passed_on = omega arith;
         returns = omega arith;
         between = between;
         ended = ended;
@@ -324,10 +354,11 @@ module _ (number : Number) where
           let at = front_off before (one ∷ middle ++ (two ∷ later)) a b (subst (λ xs. SayInTurn number xs a b) e says) in
           needs_forward middle later two at.1.0 b (delivery_leaves one (middle ++ (two ∷ later)) at.0 at.1.0 at.1.1 d) f at.1.2
 
-      ended : (before later : List What) (what : What) → told ≡ before ++ (what ∷ later) → is_return_of number what later ≡ true → IsSilent number later
+      ended : (before later : List What) (what : What) → told ≡ before ++ (what ∷ later)
+          → (is_return_of number what later || is_last_delivery_of number what) ≡ true → IsSilent number later
       ended before later what e r =
           let at = front_off before (what ∷ later) a b (subst (λ xs. SayInTurn number xs a b) e says) in
-          (over_silent later at.1.0 b (return_ends what later at.0 at.1.0 at.1.1 r) at.1.2).0
+          (over_silent later at.1.0 b (last_ends what later at.0 at.1.0 at.1.1 r) at.1.2).0
 
 -- ---- runs and histories
 

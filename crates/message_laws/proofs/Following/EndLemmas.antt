@@ -1,5 +1,5 @@
 -- A server ends, or a process dies: messages are lost with it, and none else is moved.
-use Rattle.std.proofs.Common.{◌≡◌, ◌≢◌, ℕ, zero, suc, ◌+◌, ◌<◌, ◌≤◌, ◌⊎◌, inl, inr, Bool, true, false, List, [], ◌∷◌, cond, filter, map, Option, Some, None, refl, sym, ap, ◌∙◌, subst, arith}
+use Rattle.std.proofs.Common.{◌≡◌, ℕ, zero, suc, ◌+◌, ◌≤◌, ◌⊎◌, inl, inr, Bool, true, false, List, [], ◌∷◌, cond, filter, map, Option, Some, None, refl, sym, ap, ◌∙◌, arith}
 use Rattle.std.specs.Prelude.{◌==◌, ◌||◌, if◌then◌else◌, is_some, not}
 use Rattle.std.specs.List.{list_any}
 use Rattle.std.specs.Option.{option_map, option_or}
@@ -7,7 +7,6 @@ use Rattle.std.proofs.lemmas.Bool.{eq-eqb, false≢true, or_parts}
 use Rattle.xk_base.specs.declared.ids.Number.{Number}
 use Rattle.xk_base.specs.declared.ids.Pid.{Pid}
 use Rattle.xk_base.specs.declared.ids.Serial.{Serial}
-use Rattle.xk_base.specs.declared.ids.ThreadId.{ThreadId}
 use Rattle.xk_base.specs.declared.messages.Message.{Message}
 use Rattle.xk_base.specs.Calls.CallNumbers.{destroy_server, terminate_process}
 use Rattle.xk_base.specs.Calls.CallWords.{call_number}
@@ -22,18 +21,17 @@ use Rattle.machine_model.specs.Runs.Matched.{Matched}
 use Rattle.machine_model.specs.State.Machine.{Machine, Server}
 use Rattle.machine_model.specs.State.Servers.{is_server_of, messages_of}
 use Rattle.machine_model.specs.State.Threads.{answer_to, both_answers}
-use Rattle.machine_model.proofs.Matching.CountLemmas.{count_in-append, first_in}
-use Rattle.machine_laws.proofs.Messaging.ListedLemmas.{listed_at, not_counted}
+use Rattle.machine_model.proofs.Matching.CountLemmas.{count_in-append}
+use Rattle.machine_laws.proofs.Messaging.ListedLemmas.{not_counted}
 use Rattle.call_effects.specs.Rows.ServerRows.{destroy_row}
 use Rattle.call_effects.specs.Rows.ThreadRows.{terminate_row}
 use Rattle.call_effects.proofs.ServedLemmas.{OfPlan, done}
-use Rattle.message_laws.specs.Following.{Holds, Keeping, Lacks, Queues, Standing, Stands, keeping, keeping_by}
-use Rattle.message_laws.proofs.Following.KeepLemmas.{any_kept}
+use Rattle.message_laws.specs.Following.{Lacks, Standing, Stands, keeping, keeping_by}
 use Rattle.message_laws.proofs.Following.ReceiveLemmas.{at_most_one}
 use Rattle.message_laws.proofs.Following.SayLemmas.{asks}
-use Rattle.message_laws.proofs.Following.ServedLemmas.{AnswersSay, Follows, One, Quiet, ServedSays, answer_itself, both_quiet, leaves_it, one_quiet, refused_quiet}
+use Rattle.message_laws.proofs.Following.ServedLemmas.{Follows, Quiet, answer_itself, both_quiet, leaves_it, one_quiet, refused_quiet}
 use Rattle.message_laws.proofs.Following.StandLemmas.{MayLose, lost_stands}
-use Rattle.message_laws.proofs.Following.TellLemmas.{CallSays, Destroys}
+use Rattle.message_laws.proofs.Following.TellLemmas.{Destroys}
 
 module _ (number : Number) where
   abbrev test : Message → Bool

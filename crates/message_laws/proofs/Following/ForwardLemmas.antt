@@ -1,11 +1,10 @@
 -- An accepted forward: a held message leaves its server, and arrives at another.
-use Rattle.std.proofs.Common.{◌≡◌, ◌≢◌, ℕ, ◌+◌, ◌<◌, ◌≤◌, ◌⊎◌, inl, inr, Bool, true, false, List, [], ◌∷◌, Option, Some, None, refl, sym, ap, ◌∙◌, subst, arith}
-use Rattle.std.specs.Prelude.{◌==◌, ◌&&◌, ◌||◌, if◌then◌else◌, is_none, is_some, nat_eq, unwrap_or}
+use Rattle.std.proofs.Common.{◌≡◌, ◌≢◌, ℕ, ◌<◌, ◌⊎◌, inl, inr, Bool, true, false, List, [], ◌∷◌, Option, Some, None, refl, sym, ap, ◌∙◌, subst, arith}
+use Rattle.std.specs.Prelude.{◌==◌, ◌&&◌, if◌then◌else◌, is_none, is_some, nat_eq, unwrap_or}
 use Rattle.std.specs.Option.{option_map, option_or}
 use Rattle.std.proofs.lemmas.Bool.{and_parts, eq-eqb, eqb-true, false≢true}
-use Rattle.std.proofs.lemmas.Option.{none-some, same_Some}
-use Rattle.xk_base.specs.declared.errors.XousError.{XousError}
-use Rattle.xk_base.specs.declared.errors.XousError.TheVariants.{DoubleFree, InvalidSyscall, MemoryInUse, ServerNotFound, ServerQueueFull}
+use Rattle.std.proofs.lemmas.Option.{same_Some}
+use Rattle.xk_base.specs.declared.errors.XousError.TheVariants.{DoubleFree, InvalidSyscall, ServerNotFound, ServerQueueFull}
 use Rattle.xk_base.specs.declared.ids.Number.{Number}
 use Rattle.xk_base.specs.declared.ids.Serial.{Serial}
 use Rattle.xk_base.specs.declared.ids.ThreadId.{ThreadId}
@@ -13,20 +12,18 @@ use Rattle.xk_base.specs.declared.ids.Vpn.{Vpn}
 use Rattle.xk_base.specs.declared.messages.Message.{Message}
 use Rattle.xk_base.specs.Calls.CallNumbers.{forward_message}
 use Rattle.xk_base.specs.Calls.CallWords.{call_number, forward_cid, forward_token, return_token}
-use Rattle.xk_base.specs.Calls.Kinds.{is_answered}
 use Rattle.xk_base.specs.Calls.Replies.{message_words, plain_words}
-use Rattle.xk_base.specs.Tables.Circle.{is_thread_id, same_thread}
+use Rattle.xk_base.specs.Tables.Circle.{same_thread}
 use Rattle.xk_base.specs.Tables.Sids.{serial_of}
-use Rattle.machine_model.specs.Messaging.ForwardCalls.{are_one_server, forward_refusals, is_passable_of, next_arrival, passable, passed_from, passed_number, passed_to, with_first}
-use Rattle.machine_model.specs.Messaging.Messages.{is_lend, is_lend_of, is_of_number, with_queued, with_received, without_held}
+use Rattle.machine_model.specs.Messaging.ForwardCalls.{are_one_server, is_passable_of, next_arrival, passable, passed_from, passed_number, passed_to, with_first}
+use Rattle.machine_model.specs.Messaging.Messages.{is_lend, is_lend_of, is_of_number, without_held}
 use Rattle.machine_model.specs.Messaging.Receivers.{receiver}
-use Rattle.machine_model.specs.Messaging.ReturnCalls.{holder_of}
 use Rattle.machine_model.specs.Runs.Matched.{Matched}
 use Rattle.machine_model.specs.State.Changes.{Change}
 use Rattle.machine_model.specs.State.Machine.{Machine, Ready, Receiving, Server, Thread, ThreadState}
 use Rattle.machine_model.specs.State.Order.{ready_at}
 use Rattle.machine_model.specs.State.Servers.{change_server, is_full, server_at}
-use Rattle.machine_model.specs.State.Threads.{Answers, answer_to, both_answers, no_answers}
+use Rattle.machine_model.specs.State.Threads.{Answers, answer_to, both_answers}
 use Rattle.machine_model.proofs.Matching.OneMessageLemmas.{same_or_not}
 use Rattle.machine_laws.proofs.Calling.RunRefusalLemmas.{none_holds}
 use Rattle.machine_laws.proofs.Returning.GivenBackLemmas.{found_at}
@@ -36,11 +33,11 @@ use Rattle.machine_laws.proofs.Threading.ThreadPutLemmas.{alike}
 use Rattle.call_effects.specs.Effects.{arriving, at_server}
 use Rattle.call_effects.specs.Rows.MessageRows.{arrival_answers, forward_row, passed_if}
 use Rattle.call_effects.proofs.ServedLemmas.{OfPlan, done}
-use Rattle.message_laws.specs.Following.{Held, Holds, Keeping, Lacks, Over, Queued, Queues, Standing, Stands, is_return_call, keeping}
+use Rattle.message_laws.specs.Following.{Lacks, Queued, Standing, Stands, is_return_call, keeping}
 use Rattle.message_laws.proofs.Following.KeepLemmas.{change_elsewhere, change_here, change_same, returned_other, returned_this}
 use Rattle.message_laws.proofs.Following.ReturnLemmas.{IsHolder, holder, is_kept, not_queued, stood_held}
 use Rattle.message_laws.proofs.Following.SendLemmas.{HasServerAt, arrival_other, arrival_quiet, arrival_says, arrival_this, arrived_as, receiver_known, server_there}
-use Rattle.message_laws.proofs.Following.ServedLemmas.{AnswersSay, Follows, Quiet, ServedSays, answer_itself, one_quiet}
+use Rattle.message_laws.proofs.Following.ServedLemmas.{Follows, Quiet, ServedSays, answer_itself, one_quiet}
 use Rattle.message_laws.proofs.Following.StandLemmas.{kept_low, now_stands, others_lack, same_stands, standing_at}
 use Rattle.message_laws.proofs.Following.TellLemmas.{CallSays, Forwards, Leaves}
 

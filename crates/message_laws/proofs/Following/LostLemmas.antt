@@ -1,10 +1,9 @@
 -- Nothing is lost: what isn't at a server in the end was over at the start, or was ended by a record.
-use Rattle.std.proofs.Common.{◌≡◌, ℕ, ◌<◌, ◌⊎◌, inl, inr, Bool, true, false, List, [], ◌∷◌, ◌++◌, length, map, refl, sym, ap, ◌∙◌, subst, arith}
-use Rattle.std.specs.Prelude.{◌&&◌, ◌||◌, if◌then◌else◌, not, slice_index}
-use Rattle.std.proofs.lemmas.Bool.{and_from, false≢true}
+use Rattle.std.proofs.Common.{◌≡◌, ℕ, ◌⊎◌, inl, inr, Bool, true, false, List, [], ◌∷◌, length, map, refl, ap, ◌∙◌, subst, arith}
+use Rattle.std.specs.Prelude.{◌||◌, if◌then◌else◌, not, slice_index}
+use Rattle.std.proofs.lemmas.Bool.{and_from}
 use Rattle.xk_base.specs.declared.events.Event.{Event}
 use Rattle.xk_base.specs.declared.ids.Number.{Number}
-use Rattle.xk_base.specs.declared.ids.ThreadId.{ThreadId}
 use Rattle.xk_base.specs.declared.records.Rec.{Rec}
 use Rattle.xk_base.specs.declared.records.What.{What}
 use Rattle.xk_base.specs.declared.records.What.TheVariants.{Reply}
@@ -15,8 +14,8 @@ use Rattle.machine_history.proofs.Histories.MomentLemmas.{history_is_run}
 use Rattle.machine_model.specs.Runs.Matched.{Matched}
 use Rattle.machine_model.specs.Runs.Moments.{IsRun, Moment, state_at}
 use Rattle.machine_model.specs.State.Machine.{Machine}
-use Rattle.message_laws.specs.Following.{Accepted, Delivered, Forwarded, Held, LostHeld, LostQueued, Over, Queued, Returned, Says, SayInTurn, Standing, Stands, Stays, Unsent, is_end_in, is_message_of, is_return_of, left_by}
-use Rattle.message_laws.specs.NothingLost.{HasEnding, IsAtServer, NothingIsLost, StandsOnce, is_ending_of, is_last_delivery_of}
+use Rattle.message_laws.specs.Following.{Accepted, Delivered, Forwarded, Held, LostHeld, LostQueued, Over, Queued, Returned, Says, SayInTurn, Standing, Stands, Stays, Unsent, is_end_in, is_last_delivery_of, is_message_of, is_return_of}
+use Rattle.message_laws.specs.NothingLost.{HasEnding, IsAtServer, NothingIsLost, StandsOnce, is_ending_of}
 use Rattle.message_laws.proofs.Following.CountLemmas.{last_matched}
 use Rattle.message_laws.proofs.Following.StandLemmas.{one_standing, some_standing}
 use Rattle.message_laws.proofs.Following.StepLemmas.{run_leads}

@@ -1,5 +1,5 @@
 -- A receive takes the oldest queued message.
-use Rattle.std.proofs.Common.{◌≡◌, ◌≢◌, ℕ, ◌+◌, ◌<◌, ◌≤◌, ◌⊎◌, inl, inr, Bool, true, false, List, [], ◌∷◌, ◌++◌, drop, Option, Some, None, refl, sym, ap, ◌∙◌, subst, arith}
+use Rattle.std.proofs.Common.{◌≡◌, ◌≢◌, ℕ, ◌+◌, ◌≤◌, inl, Bool, true, false, List, [], ◌∷◌, drop, Option, Some, None, refl, sym, ap, ◌∙◌, subst, arith}
 use Rattle.std.specs.Prelude.{◌||◌, if◌then◌else◌}
 use Rattle.std.specs.List.{list_any}
 use Rattle.std.specs.Option.{option_and_then}
@@ -12,7 +12,7 @@ use Rattle.xk_base.specs.declared.messages.MsgKind.TheVariants.{LendMut, Lend, M
 use Rattle.xk_base.specs.Calls.CallWords.{call_number}
 use Rattle.xk_base.specs.Calls.Kinds.{is_answered, is_waiting_kind, kind_number}
 use Rattle.xk_base.specs.Calls.Replies.{message_words, plain_words}
-use Rattle.xk_base.specs.Tables.Circle.{is_thread_id, same_thread}
+use Rattle.xk_base.specs.Tables.Circle.{is_thread_id}
 use Rattle.machine_model.specs.Messaging.MessageCounts.{count_in}
 use Rattle.machine_model.specs.Messaging.Messages.{is_of_number, oldest, with_received, without_oldest}
 use Rattle.machine_model.specs.Messaging.ReceiveCalls.{oldest_queued}
@@ -25,14 +25,13 @@ use Rattle.machine_model.proofs.Matching.CountLemmas.{count_in-append, one_if}
 use Rattle.machine_laws.proofs.Messaging.AnyServerLemmas.{messages_apart}
 use Rattle.machine_laws.proofs.Messaging.ListedLemmas.{not_counted}
 use Rattle.machine_laws.proofs.Threading.ThreadAnswerLemmas.{IsReadyThread, ready_thread}
-use Rattle.call_effects.specs.Effects.{Serves, Taken}
 use Rattle.call_effects.specs.Rows.MessageRows.{taken_or}
 use Rattle.call_effects.specs.Verdicts.{Verdict}
 use Rattle.call_effects.proofs.ServedLemmas.{OfPlan, done}
-use Rattle.message_laws.specs.Following.{Held, Holds, Keeping, Lacks, Over, Queued, Queues, Standing, Stands, is_message_of, keeping, keeping_by, left_by}
+use Rattle.message_laws.specs.Following.{Held, Lacks, Over, Queued, Queues, Standing, Stands, keeping, keeping_by, left_by}
 use Rattle.message_laws.proofs.Following.KeepLemmas.{change_elsewhere, change_here, change_same, received_as, received_other, received_this}
 use Rattle.message_laws.proofs.Following.SayLemmas.{asks}
-use Rattle.message_laws.proofs.Following.ServedLemmas.{AnswersSay, Follows, One, Quiet, ServedSays, answer_itself, leaves_it, one_quiet, to_itself}
+use Rattle.message_laws.proofs.Following.ServedLemmas.{Follows, One, Quiet, answer_itself, leaves_it, one_quiet, to_itself}
 use Rattle.message_laws.proofs.Following.TellLemmas.{CallSays}
 use Rattle.message_laws.proofs.Following.StandLemmas.{kept_low, now_stands, one_standing, others_lack, queues_not_lacks, same_stands, standing_at}
 

@@ -1,10 +1,10 @@
 -- A return takes a held message away.
-use Rattle.std.proofs.Common.{◌≡◌, ◌≢◌, ℕ, zero, suc, ◌+◌, ◌<◌, ◌≤◌, ◌⊎◌, inl, inr, Bool, true, false, List, [], ◌∷◌, get_or, length, Option, Some, None, refl, sym, ap, ◌∙◌, subst, arith}
-use Rattle.std.specs.Prelude.{◌==◌, ◌&&◌, ◌||◌, find, is_none, is_some, not, unwrap_or}
+use Rattle.std.proofs.Common.{◌≡◌, ◌≢◌, ℕ, zero, suc, ◌+◌, ◌<◌, ◌≤◌, inr, Bool, true, false, List, [], ◌∷◌, Option, Some, None, refl, sym, ap, ◌∙◌, subst, arith}
+use Rattle.std.specs.Prelude.{◌==◌, ◌&&◌, find, is_none, is_some, not, unwrap_or}
 use Rattle.std.specs.List.{list_any}
 use Rattle.std.specs.Option.{option_and_then, option_map_or, option_or}
 use Rattle.std.proofs.lemmas.Bool.{and_parts, eq-eqb, eqb-true, false≢true}
-use Rattle.std.proofs.lemmas.Option.{none-some, same_Some}
+use Rattle.std.proofs.lemmas.Option.{none-some}
 use Rattle.xk_base.specs.declared.errors.XousError.TheVariants.{BadAddress, DoubleFree}
 use Rattle.xk_base.specs.declared.ids.Number.{Number}
 use Rattle.xk_base.specs.declared.ids.Serial.{Serial}
@@ -22,18 +22,16 @@ use Rattle.machine_model.specs.State.Machine.{Machine, Server}
 use Rattle.machine_model.specs.State.Servers.{change_server, messages_of}
 use Rattle.machine_model.specs.State.Threads.{Answers, answer_to, both_answers}
 use Rattle.machine_model.proofs.Matching.CountLemmas.{count_in-append}
-use Rattle.machine_laws.proofs.Calling.ThreadCallLemmas.{two_passed}
 use Rattle.machine_laws.proofs.Calling.RunRefusalLemmas.{none_holds}
-use Rattle.machine_laws.proofs.Messaging.AnyServerLemmas.{number_counted}
 use Rattle.machine_laws.proofs.Messaging.ListedLemmas.{at_listed, not_counted}
 use Rattle.machine_laws.proofs.Returning.GivenBackLemmas.{found_at}
 use Rattle.call_effects.specs.Rows.MessageRows.{return_memory_row, return_scalar1_row, return_scalar2_row}
 use Rattle.call_effects.proofs.ServedLemmas.{OfPlan, done}
 use Rattle.span_laws.proofs.Fates.ServedFateLemmas.{some_of}
-use Rattle.message_laws.specs.Following.{Held, Holds, Keeping, Lacks, Over, Queued, Queues, Standing, Stands, is_message_of, is_return_call, keeping, keeping_by}
+use Rattle.message_laws.specs.Following.{Held, Holds, Lacks, Over, Standing, Stands, is_message_of, is_return_call, keeping, keeping_by}
 use Rattle.message_laws.proofs.Following.KeepLemmas.{change_elsewhere, change_here, change_same, returned_other, returned_this}
 use Rattle.message_laws.proofs.Following.ReceiveLemmas.{at_most_one}
-use Rattle.message_laws.proofs.Following.ServedLemmas.{AnswersSay, Follows, One, Quiet, ServedSays, answer_itself, both_quiet, none_quiet, one_quiet}
+use Rattle.message_laws.proofs.Following.ServedLemmas.{Follows, Quiet, ServedSays, answer_itself, both_quiet, none_quiet, one_quiet}
 use Rattle.message_laws.proofs.Following.StandLemmas.{holds_not_lacks, kept_low, now_stands, one_standing, others_lack, same_stands}
 use Rattle.message_laws.proofs.Following.TellLemmas.{CallSays, IsQuiet, Leaves, Returns}
 

@@ -10,7 +10,7 @@ use Rattle.xk_base.specs.declared.records.What.{What}
 use Rattle.xk_base.specs.declared.records.What.TheVariants.{Call, Reply, Retry, Byte, Fault, End, Irq, Gone}
 use Rattle.xk_base.specs.Calls.CallNumbers.{destroy_server, forward_message}
 use Rattle.xk_base.specs.Calls.CallWords.{call_number, forward_token, return_token}
-use Rattle.message_laws.specs.Following.{Accepted, Delivered, Forwarded, LostHeld, LostQueued, Returned, Says, SayInTurn, Standing, Stays, answer_in, is_delivery_of, is_end_in, is_forward_of, is_plain, is_return_call, is_return_of, is_served_by, moves, next_answer}
+use Rattle.message_laws.specs.Following.{Accepted, Delivered, Forwarded, LostHeld, LostQueued, Returned, Says, SayInTurn, Standing, Stays, answer_in, is_delivery_of, is_end_in, is_forward_of, is_plain, is_return_call, is_return_of, is_served_by, next_answer}
 
 -- ---- the next answer
 

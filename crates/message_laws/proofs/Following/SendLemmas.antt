@@ -1,10 +1,9 @@
 -- An accepted send: its message is queued, or goes to the thread that waits for one.
-use Rattle.std.proofs.Common.{◌≡◌, ◌≢◌, ℕ, ◌+◌, ◌<◌, ◌≤◌, ◌⊎◌, inl, inr, Bool, true, false, List, [], ◌∷◌, ◌++◌, Option, Some, None, refl, sym, ap, ◌∙◌, subst, arith}
-use Rattle.std.specs.Prelude.{◌==◌, ◌&&◌, ◌||◌, nat_eq, if◌then◌else◌, is_none, unwrap_or}
+use Rattle.std.proofs.Common.{◌≡◌, ℕ, ◌+◌, ◌<◌, ◌≤◌, ◌⊎◌, inl, inr, Bool, true, false, List, [], ◌∷◌, ◌++◌, Option, Some, None, refl, sym, ap, ◌∙◌, subst, arith}
+use Rattle.std.specs.Prelude.{◌&&◌, nat_eq, is_none, unwrap_or}
 use Rattle.std.specs.List.{list_any}
 use Rattle.std.specs.Option.{option_and_then, option_map, option_or}
 use Rattle.std.proofs.lemmas.Bool.{cases_lt, eq-eqb, eqb-true, false≢true}
-use Rattle.std.proofs.lemmas.Option.{none-some, same_Some}
 use Rattle.xk_base.specs.declared.errors.XousError.{XousError}
 use Rattle.xk_base.specs.declared.errors.XousError.TheVariants.{BadAddress, BadAlignment, InvalidSyscall, ServerNotFound, ServerQueueFull, ShareViolation}
 use Rattle.xk_base.specs.declared.ids.Number.{Number}
@@ -24,12 +23,12 @@ use Rattle.xk_base.specs.Tables.Counting.{put_at}
 use Rattle.xk_base.specs.Tables.Sids.{serial_of}
 use Rattle.ledger_model.specs.RunTests.{any_free, any_not_sent}
 use Rattle.machine_model.specs.Calling.MemoryCalls.{caller_place, is_bad_range}
-use Rattle.machine_model.specs.Messaging.Messages.{is_of_number, new_message, new_number, with_queued, with_received}
+use Rattle.machine_model.specs.Messaging.Messages.{is_of_number, new_message, new_number}
 use Rattle.machine_model.specs.Messaging.Receivers.{receiver}
-use Rattle.machine_model.specs.Messaging.SendCalls.{arrival, is_full_for, named_kind, send_refusals, sender_answered, sender_left, sends_lend_mut, sends_pages, sent_pages, sent_place, sent_serial, with_sent}
+use Rattle.machine_model.specs.Messaging.SendCalls.{arrival, is_full_for, named_kind, sender_answered, sender_left, sends_lend_mut, sends_pages, sent_pages, sent_place, sent_serial, with_sent}
 use Rattle.machine_model.specs.Runs.LoanSpan.{is_send}
 use Rattle.machine_model.specs.Runs.Matched.{Matched}
-use Rattle.machine_model.specs.State.Changes.{Change, first_refusal}
+use Rattle.machine_model.specs.State.Changes.{Change}
 use Rattle.machine_model.specs.State.Connections.{own_connections}
 use Rattle.machine_model.specs.State.Machine.{Machine, Server}
 use Rattle.machine_model.specs.State.Servers.{change_server, server_at}
@@ -37,10 +36,9 @@ use Rattle.machine_model.specs.State.Threads.{Answers, answer_to, both_answers, 
 use Rattle.machine_laws.proofs.Calling.RunRefusalLemmas.{none_holds}
 use Rattle.machine_laws.proofs.Sending.SentReceiverLemmas.{receiver_receives}
 use Rattle.call_effects.specs.Effects.{arriving, at_server}
-use Rattle.call_effects.specs.Rows.MessageRows.{arrival_answers, send_row, sent_row, sent_to_row, try_send_row}
+use Rattle.call_effects.specs.Rows.MessageRows.{arrival_answers, send_row, sent_to_row, try_send_row}
 use Rattle.call_effects.proofs.ServedLemmas.{OfPlan, done}
-use Rattle.span_laws.proofs.Fates.ServedFateLemmas.{some_of}
-use Rattle.message_laws.specs.Following.{Held, Holds, Keeping, Lacks, Over, Queued, Queues, Standing, Stands, Unsent, is_message_of, keeping, keeping_by, left_by}
+use Rattle.message_laws.specs.Following.{Held, Holds, Keeping, Lacks, Over, Queued, Queues, Standing, Stands, Unsent, keeping, keeping_by}
 use Rattle.message_laws.proofs.Following.KeepLemmas.{change_elsewhere, change_here, change_same, queued_other, queued_this, received_as, received_other, received_this}
 use Rattle.message_laws.proofs.Following.ReceiveLemmas.{left_as}
 use Rattle.message_laws.proofs.Following.SayLemmas.{asks}

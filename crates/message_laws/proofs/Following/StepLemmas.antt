@@ -1,5 +1,5 @@
 -- What each step and event tells of a message, and so each run.
-use Rattle.std.proofs.Common.{◌≡◌, ℕ, ◌+◌, ◌⊎◌, inl, inr, Bool, true, false, List, [], ◌∷◌, ◌++◌, length, map, Option, Some, None, refl, sym, ap, ◌∙◌, subst, arith}
+use Rattle.std.proofs.Common.{◌≡◌, ℕ, ◌+◌, ◌⊎◌, inl, inr, Bool, true, false, List, [], ◌∷◌, map, Option, Some, None, refl, sym, ap, ◌∙◌, subst}
 use Rattle.std.specs.Prelude.{◌==◌, ◌%◌, ◌&&◌, ◌||◌, if◌then◌else◌, is_some, nat_eq}
 use Rattle.std.specs.Option.{option_map, option_map_or, option_or}
 use Rattle.std.proofs.lemmas.Bool.{false≢true}
@@ -13,7 +13,7 @@ use Rattle.xk_base.specs.declared.ids.ThreadId.{ThreadId}
 use Rattle.xk_base.specs.declared.records.Rec.{Rec}
 use Rattle.xk_base.specs.declared.records.What.{What}
 use Rattle.xk_base.specs.declared.records.What.TheVariants.{Call, Reply, Retry, Byte, Fault, End}
-use Rattle.xk_base.specs.Calls.CallNumbers.{destroy_server, forward_message}
+use Rattle.xk_base.specs.Calls.CallNumbers.{forward_message}
 use Rattle.xk_base.specs.Calls.CallWords.{call_number, forward_token, return_token}
 use Rattle.xk_base.specs.Calls.Registers.{arguments_of, reg_at}
 use Rattle.xk_base.specs.Calls.Replies.{plain_words, refused_words, scalar1_words}
@@ -23,7 +23,7 @@ use Rattle.isolation_laws.specs.TwoRuns.{records_by, records_of}
 use Rattle.machine_history.specs.HistoryMoments.{moments_of}
 use Rattle.machine_history.proofs.Histories.MomentLemmas.{history_is_run}
 use Rattle.machine_model.specs.Calling.Calls.{call}
-use Rattle.machine_model.specs.Ending.Closing.{closed, is_sender_at, refused_server, senders_held_gone, senders_queued_gone, servers_closed, with_senderless_from, without_queued_from}
+use Rattle.machine_model.specs.Ending.Closing.{closed, is_sender_at, senders_held_gone, senders_queued_gone, servers_closed, with_senderless_from, without_queued_from}
 use Rattle.machine_model.specs.Ending.Ends.{death, end_with_last_thread, forgotten, handler_ended, has_threads, joiners_answered, thread_ended, waits_for_end}
 use Rattle.machine_model.specs.Hart.Instructions.{CallsKernel, Executed, Next, Stores, StoresToConsole, StoresToTimer, Traps}
 use Rattle.machine_model.specs.Runs.Matched.{Matched}
@@ -44,7 +44,6 @@ use Rattle.machine_model.proofs.StepLemmas.{no_step}
 use Rattle.machine_laws.proofs.Stepping.EveryStepLemmas.{every_cause_keeps}
 use Rattle.machine_laws.proofs.Stepping.StepKindLemmas.{Executes, HandlerEnds, StepKind, ThreadEnds, acted_as_executed, kind_of}
 use Rattle.machine_laws.proofs.Threading.ThreadAnswerLemmas.{same_thread-self}
-use Rattle.machine_laws.proofs.Threading.ThreadMoveLemmas.{matched_reserved}
 use Rattle.machine_laws.proofs.Threading.ThreadStepLemmas.{actor_ready, then_acted, turned_to}
 use Rattle.call_effects.proofs.ServedLemmas.{OfServed}
 use Rattle.message_laws.specs.Following.{Lacks, MessagesFollow, Says, SayInTurn, Standing, Stands, Stays, is_message_of, is_plain, is_return_call, is_served_by, keeping, next_answer}
@@ -54,8 +53,8 @@ use Rattle.message_laws.proofs.Following.SayLemmas.{AreSettled, IsSettled, asks,
 use Rattle.message_laws.proofs.Following.ServedLemmas.{AnswersSay, Follows, Quiet, ServedSays, both_quiet, none_quiet, refused_quiet}
 use Rattle.message_laws.proofs.Following.StandLemmas.{MayLose, lost_stands, one_standing}
 use Rattle.message_laws.proofs.Following.TableLemmas.{served_follows}
-use Rattle.message_laws.proofs.Following.TellLemmas.{CallSays, Destroys, Forwards, GoneSays, IsQuiet, Leaves, Returns, Sends, answer_told, call_say}
-use Rattle.message_laws.proofs.Following.ToldLemmas.{MessageTold, Tells, change_settled, change_says, change_tells, like_stands, nothing_told, quiet_first, timed_told}
+use Rattle.message_laws.proofs.Following.TellLemmas.{CallSays, Destroys, Forwards, IsQuiet, Leaves, Returns, Sends, answer_told, call_say}
+use Rattle.message_laws.proofs.Following.ToldLemmas.{MessageTold, Tells, change_tells, like_stands, nothing_told, quiet_first, timed_told}
 
 and_none : (a b : Bool) → (a && (b && false)) ≡ false
 and_none true true = refl
@@ -292,8 +291,8 @@ module _ (number : Number) (m : Machine) (h : Matched m) (who : ThreadId) (acts 
       (go (has_threads (put_thread who None n) who.pid))
     where
       go : (b : Bool) → Tells number m (settled (record (end_with_last_thread b who.pid (put_thread who None n)) {
-            answers = both_answers (joiners_answered n who a0) (end_with_last_thread b who.pid (put_thread who None n)).answers;
-          }))
+        answers = both_answers (joiners_answered n who a0) (end_with_last_thread b who.pid (put_thread who None n)).answers;
+      }))
       go true = λ a stands.
           change_tells number (record (end_with_last_thread true who.pid (put_thread who None n)) {
             answers = both_answers (joiners_answered n who a0) no_answers;

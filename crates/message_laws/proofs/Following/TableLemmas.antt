@@ -1,33 +1,23 @@
 -- Every served call leads each message as its records say.
-use Rattle.std.proofs.Common.{◌≡◌, ℕ, ◌<◌, Bool, true, false, List, [], ◌∷◌, Option, Some, None, refl, sym, ap, ◌∙◌, subst, arith}
-use Rattle.std.specs.Prelude.{◌==◌, if◌then◌else◌, nat_eq}
-use Rattle.std.proofs.lemmas.Bool.{eqb-true, false≢true}
+use Rattle.std.proofs.Common.{◌≡◌, ℕ, ◌<◌, Bool, true, false, List, Option, Some, None, refl, sym, ap, ◌∙◌, subst, arith}
+use Rattle.std.specs.Prelude.{if◌then◌else◌, nat_eq}
+use Rattle.std.proofs.lemmas.Bool.{eqb-true}
 use Rattle.xk_base.specs.declared.ids.Number.{Number}
-use Rattle.xk_base.specs.Calls.CallNumbers.{map_memory, yield_turn, claim_interrupt, free_interrupt, increase_heap, decrease_heap}
-use Rattle.xk_base.specs.Calls.CallNumbers.{update_memory_flags, create_server_with_address, receive_message, send_message, connect}
-use Rattle.xk_base.specs.Calls.CallNumbers.{create_thread, unmap_memory, return_memory, terminate_process, try_send_message, try_connect}
-use Rattle.xk_base.specs.Calls.CallNumbers.{return_scalar1, return_scalar2, try_receive_message, join_thread, destroy_server, get_thread_id}
-use Rattle.xk_base.specs.Calls.CallNumbers.{get_process_id, forward_message}
+use Rattle.xk_base.specs.Calls.CallNumbers.{map_memory, yield_turn, claim_interrupt, free_interrupt, increase_heap, decrease_heap, update_memory_flags, create_server_with_address, receive_message, connect, create_thread, unmap_memory, try_connect, try_receive_message, join_thread, get_thread_id, get_process_id}
 use Rattle.xk_base.specs.Calls.CallWords.{call_number}
 use Rattle.xk_base.specs.Calls.Replies.{connection_words, new_server_words, plain_words, range_words, scalar1_words, thread_words}
 use Rattle.xk_base.specs.Tables.Counting.{put_at}
+use Rattle.xk_base.specs.Tables.Connections.{cid_for}
 use Rattle.machine_model.specs.State.Threads.{answer_to, no_answers}
 use Rattle.machine_model.specs.Calling.Calls.{call}
 use Rattle.machine_model.specs.Calling.ServerCalls.{named_server, named_sid, new_serial, new_server}
 use Rattle.machine_model.specs.Runs.Matched.{Matched}
 use Rattle.machine_model.specs.State.Connections.{own_connections}
-use Rattle.xk_base.specs.Tables.Connections.{cid_for}
 use Rattle.machine_model.specs.State.Machine.{Machine, Server}
 use Rattle.machine_model.specs.State.Order.{ready_at, turn}
 use Rattle.call_effects.specs.Deciding.{decide, rows}
-use Rattle.call_effects.specs.Effects.{Effect, run}
-use Rattle.call_effects.specs.Rows.InterruptRows.{claim_row, free_row}
-use Rattle.call_effects.specs.Rows.MemoryRows.{decrease_row, increase_row, map_row, unmap_row, update_row}
-use Rattle.call_effects.specs.Rows.MessageRows.{forward_row, receive_row, return_memory_row, return_scalar1_row, return_scalar2_row}
-use Rattle.call_effects.specs.Rows.MessageRows.{send_row, try_receive_row, try_send_row}
-use Rattle.call_effects.specs.Rows.ServerRows.{connect_row, create_server_row, destroy_row, try_connect_row}
-use Rattle.call_effects.specs.Rows.ThreadRows.{create_row, join_row, process_id_row, terminate_row, thread_id_row, yield_row}
-use Rattle.call_effects.specs.Verdicts.{Row, Verdict}
+use Rattle.call_effects.specs.Rows.ThreadRows.{yield_row}
+use Rattle.call_effects.specs.Verdicts.{Row}
 use Rattle.call_effects.proofs.MeantLemmas.{calls_meant}
 use Rattle.call_effects.proofs.RowLemmas.{OfRows, ◌also◌, of_row}
 use Rattle.call_effects.proofs.ServedLemmas.{OfPlan, OfServed, done, of_plan}
@@ -36,7 +26,6 @@ use Rattle.message_laws.proofs.Following.EndLemmas.{destroy_follows, terminate_f
 use Rattle.message_laws.proofs.Following.ForwardLemmas.{forward_follows}
 use Rattle.message_laws.proofs.Following.ReceiveLemmas.{taken_follows}
 use Rattle.message_laws.proofs.Following.ReturnLemmas.{return_memory_follows, return_scalar1_follows, return_scalar2_follows}
-use Rattle.message_laws.proofs.Following.SayLemmas.{asks}
 use Rattle.message_laws.proofs.Following.SendLemmas.{send_follows, try_send_follows}
 use Rattle.message_laws.proofs.Following.ServedLemmas.{Follows, none_quiet, one_quiet, simple}
 use Rattle.message_laws.proofs.Following.TellLemmas.{IsQuiet}

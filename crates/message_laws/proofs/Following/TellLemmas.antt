@@ -1,11 +1,9 @@
 -- What a call, the answers that it gives, and a death tell of a message.
-use Rattle.std.proofs.Common.{◌≡◌, ℕ, zero, suc, ◌<◌, ◌⊎◌, inl, inr, Bool, true, false, List, [], ◌∷◌, ◌++◌, get_or, length, map, Option, Some, None, refl, sym, ap, ◌∙◌, subst, arith}
+use Rattle.std.proofs.Common.{◌≡◌, ℕ, zero, suc, ◌<◌, Bool, true, false, List, [], ◌∷◌, ◌++◌, get_or, length, map, Option, Some, None, refl, sym, ap, ◌∙◌, subst, arith}
 use Rattle.std.specs.Prelude.{◌==◌, ◌&&◌, ◌||◌, if◌then◌else◌, is_some, slice_index_or, unwrap_or}
-use Rattle.std.specs.Bool.{⊤}
 use Rattle.std.specs.List.{All, AllPairs}
 use Rattle.std.specs.Option.{option_map_or, option_or}
 use Rattle.std.proofs.lemmas.Bool.{and_from, eq-eqb, eqb-true, false≢true}
-use Rattle.std.proofs.lemmas.Option.{none-some, same_Some}
 use Rattle.xk_base.specs.declared.ids.Number.{Number}
 use Rattle.xk_base.specs.declared.ids.Pid.{Pid}
 use Rattle.xk_base.specs.declared.ids.ThreadId.{ThreadId}
@@ -21,8 +19,8 @@ use Rattle.machine_model.specs.State.Changes.{death_told, replies}
 use Rattle.machine_model.specs.State.Threads.{Answers}
 use Rattle.machine_laws.proofs.Threading.ThreadAnswerLemmas.{same_thread-self}
 use Rattle.machine_laws.proofs.Threading.ThreadPutLemmas.{alike}
-use Rattle.message_laws.specs.Following.{Accepted, Delivered, Forwarded, Held, LostHeld, LostQueued, Over, Queued, Returned, Says, SayInTurn, Standing, Stays, Unsent, answer_in, is_end_in, is_forward_of, is_message_of, is_plain, is_return_call, is_return_of, is_served_by, left_by, moves, next_answer}
-use Rattle.message_laws.proofs.Following.SayLemmas.{AreSettled, IsSettled, asks, next_append, say_append, say_first, say_none}
+use Rattle.message_laws.specs.Following.{Accepted, Delivered, Forwarded, Held, LostHeld, LostQueued, Over, Queued, Returned, Says, SayInTurn, Standing, Stays, Unsent, is_end_in, is_forward_of, is_message_of, is_plain, is_return_call, is_return_of, is_served_by, left_by, next_answer}
+use Rattle.message_laws.proofs.Following.SayLemmas.{AreSettled, IsSettled, next_append, say_first, say_none}
 use Rattle.message_laws.proofs.Following.StandLemmas.{Kept, LosesHeld, LosesQueued, MayLose}
 
 -- ---- the next answer among replies

@@ -1,28 +1,21 @@
 -- What a change, a refusal and the timer tell of a message.
-use Rattle.std.proofs.Common.{◌≡◌, ℕ, ◌+◌, ◌⊎◌, inl, inr, Bool, true, false, List, [], ◌∷◌, ◌++◌, map, Option, Some, None, refl, sym, ap, ◌∙◌, subst, arith}
-use Rattle.std.specs.Prelude.{◌==◌, ◌&&◌, ◌||◌, if◌then◌else◌, is_some, unwrap_or}
-use Rattle.std.specs.Bool.{⊤}
+use Rattle.std.proofs.Common.{◌≡◌, ℕ, inl, inr, Bool, true, false, List, [], ◌∷◌, ◌++◌, Option, Some, None, refl, ap, ◌∙◌, arith}
+use Rattle.std.specs.Prelude.{◌==◌, ◌&&◌, if◌then◌else◌, is_some}
 use Rattle.std.specs.Option.{option_map_or, option_or}
-use Rattle.std.proofs.lemmas.Bool.{false≢true}
-use Rattle.xk_base.specs.declared.errors.XousError.{XousError}
 use Rattle.xk_base.specs.declared.ids.Number.{Number}
-use Rattle.xk_base.specs.declared.ids.Pid.{Pid}
 use Rattle.xk_base.specs.declared.ids.ThreadId.{ThreadId}
 use Rattle.xk_base.specs.declared.records.What.{What}
 use Rattle.xk_base.specs.declared.records.What.TheVariants.{Call, Reply, Retry, Byte, Fault, End, Irq, Gone}
 use Rattle.xk_base.specs.Calls.CallNumbers.{destroy_server, forward_message}
 use Rattle.xk_base.specs.Calls.CallWords.{call_number, forward_token, return_token}
-use Rattle.xk_base.specs.Calls.Replies.{plain_words, refused_words}
-use Rattle.xk_base.specs.Tables.Circle.{is_thread_id, listed_ids, same_thread}
+use Rattle.xk_base.specs.Tables.Circle.{listed_ids}
 use Rattle.machine_model.specs.State.Changes.{Change, Delivery, Told, death_told, delivery_told, replies, settled}
 use Rattle.machine_model.specs.State.Machine.{Machine, Server}
-use Rattle.machine_model.specs.State.Threads.{Answers}
 use Rattle.machine_model.specs.Stepping.Timer.{is_due, stands_after_irq, timed, timed_if, timer_change, with_irq, with_irq_if}
 use Rattle.machine_model.proofs.Runs.TimerLemmas.{timed_raised}
-use Rattle.machine_laws.proofs.Threading.ThreadAnswerLemmas.{same_thread-self}
 use Rattle.record_laws.proofs.Ordering.ChangeLemmas.{places_ascend}
-use Rattle.message_laws.specs.Following.{Held, Over, Queued, Says, SayInTurn, Standing, Stands, Stays, Unsent, answer_in, is_delivery_of, is_end_in, is_forward_of, is_plain, is_return_call, is_return_of, is_served_by, keeping, next_answer}
-use Rattle.message_laws.proofs.Following.SayLemmas.{AreSettled, IsAlike, IsSettled, asks, next_append, say_append, say_first, say_none, says_alike}
+use Rattle.message_laws.specs.Following.{Held, Over, Queued, Says, SayInTurn, Standing, Stands, Stays, Unsent, answer_in, is_plain, is_return_call, is_served_by, keeping, next_answer}
+use Rattle.message_laws.proofs.Following.SayLemmas.{AreSettled, IsAlike, IsSettled, next_append, say_append, say_first, say_none, says_alike}
 use Rattle.message_laws.proofs.Following.ServedLemmas.{AnswersSay, One, Quiet}
 use Rattle.message_laws.proofs.Following.TellLemmas.{GoneSays, deaths_settled, delivery_say, gone_say, quiet_say, replies_settled, settled_append}
 
