@@ -1,0 +1,213 @@
+-- A call keeps what is another's: all parts, and then the timer.
+use Rattle.std.proofs.Common.{◌≡◌, ◌≢◌, ℕ, Bool, true, false, List, Option, Some, None, refl, sym, ap, ◌∙◌, subst}
+use Rattle.std.specs.Prelude.{◌==◌, if◌then◌else◌}
+use Rattle.std.specs.Option.{option_and_then, option_map, option_map_or}
+use Rattle.std.proofs.lemmas.Bool.{eqb-true, eq-eqb, false≢true}
+use Rattle.std.proofs.lemmas.Option.{none-some}
+use Rattle.xk_base.specs.declared.errors.XousError.{XousError}
+use Rattle.xk_base.specs.declared.ids.Pid.{Pid}
+use Rattle.xk_base.specs.declared.ids.ThreadId.{ThreadId}
+use Rattle.xk_base.specs.declared.limits.TheConstants.{TIMER_INTERRUPT}
+use Rattle.xk_base.specs.Tables.Circle.{same_thread}
+use Rattle.xk_base.specs.Tables.Counting.{put_at}
+use Rattle.machine_model.specs.Calling.Calls.{call}
+use Rattle.machine_model.specs.Ending.Closing.{any_server, closed, servers_closed}
+use Rattle.machine_model.specs.Ending.Ends.{death}
+use Rattle.machine_model.specs.Runs.Matched.{Matched}
+use Rattle.machine_model.specs.State.Changes.{Change, Outcome, Refused, Retried, Served, Told, call_settled, settled, with_refusal}
+use Rattle.machine_model.specs.State.Machine.{Claim, Machine, Thread}
+use Rattle.machine_model.specs.State.Order.{turn}
+use Rattle.machine_model.specs.State.Threads.{passed, thread_id}
+use Rattle.machine_model.specs.Stepping.Acts.{call_by, executes, words_if_call}
+use Rattle.machine_model.specs.Stepping.Step.{acted, counted, step}
+use Rattle.machine_model.specs.Stepping.Timer.{timed}
+use Rattle.machine_model.proofs.Runs.TimerLemmas.{timed_raised}
+use Rattle.machine_laws.proofs.Threading.ThreadStepLemmas.{acted_call, step_of_thread, turned_to}
+use Rattle.call_effects.specs.Rows.ThreadRows.{terminate_row}
+use Rattle.call_effects.proofs.ServedLemmas.{OfPlan, OfServed, done}
+use Rattle.integrity_laws.specs.Integrity.{is_of_timer}
+use Rattle.integrity_laws.proofs.InstructionLemmas.{other_thread, timed_other}
+use Rattle.call_integrity.specs.Fates.{Doing, OrphanStays, PageStays, ServerStays, ThreadFate, ThreadStays}
+use Rattle.call_integrity.specs.KeptOthers.{CallKeepsOthers, KeepsOthers, by_call}
+use Rattle.call_integrity.proofs.AnswerLemmas.{answered_fate}
+use Rattle.call_integrity.proofs.DeathLemmas.{dead_pages, dead_servers, dead_threads}
+use Rattle.call_integrity.proofs.LedgerLemmas.{call_pages}
+use Rattle.call_integrity.proofs.OtherLemmas.{same_pid}
+use Rattle.call_integrity.proofs.PageLemmas.{KeepsPages}
+use Rattle.call_integrity.proofs.PlainPartLemmas.{KeepsClaims, KeepsProcesses, call_claims, call_processes}
+use Rattle.call_integrity.proofs.ServerLemmas.{KeepsServers, call_servers}
+use Rattle.call_integrity.proofs.ThreadLemmas.{KeepsThreads, call_threads}
+
+-- ---- all parts of a change, before the timer
+
+-- what becomes of all that is another's, the timer apart
+pub record KeepsParts (doing : Doing) (after : Machine) : Type 0 where
+  pub threads : (id : ThreadId) → id.pid ≢ doing.pid → ThreadFate doing after.servers id (after.threads id)
+  pub process : KeepsProcesses doing.before doing.pid after
+  pub claims : KeepsClaims doing.before doing.pid after
+  pub servers : KeepsServers doing after
+  pub pages : KeepsPages doing.pid doing.before.ledger after.ledger
+
+-- .. of a change
+pub record KeepsChange (doing : Doing) (change : Change) : Type 0 where
+  pub threads : KeepsThreads doing change
+  pub process : KeepsProcesses doing.before doing.pid change.machine
+  pub claims : KeepsClaims doing.before doing.pid change.machine
+  pub servers : KeepsServers doing change.machine
+  pub pages : KeepsPages doing.pid doing.before.ledger change.machine.ledger
+
+pub settled_parts : (doing : Doing) (change : Change) → KeepsChange doing change → KeepsParts doing (settled change).machine
+unfolding settled
+settled_parts doing change keeps = record {
+  threads = λ id other.
+      answered_fate doing change.machine.servers id (change.answers id) (change.machine.threads id) (keeps.threads.same id other)
+      (keeps.threads.why id other);
+  process = keeps.process;
+  claims = keeps.claims;
+  servers = keeps.servers;
+  pages = keeps.pages;
+}
+
+-- the count of the step and the reservation touch nothing of it
+pub counted_parts : (doing : Doing) (m : Machine) (t : Thread) (told : Told) → KeepsParts doing told.machine
+    → KeepsParts doing (counted m (Some t) told).machine
+counted_parts doing m t told keeps = record {
+  threads = keeps.threads;
+  process = keeps.process;
+  claims = keeps.claims;
+  servers = keeps.servers;
+  pages = keeps.pages;
+}
+
+-- ---- the timer
+
+module _ (doing : Doing) (told : Told) (keeps : KeepsParts doing told.machine) where
+  -- whose handler the timer may start isn't another's afterwards that wasn't so before
+  still_untimed : (id : ThreadId) → id.pid ≢ doing.pid → is_of_timer doing.before id ≡ false → is_of_timer told.machine id ≡ false
+  still_untimed id other untimed = go (told.machine.claims TIMER_INTERRUPT) refl
+    where
+      of_claim : (claim : Claim) → told.machine.claims TIMER_INTERRUPT ≡ Some claim → (b : Bool) → (claim.pid.0 == doing.pid.0) ≡ b
+          → same_thread id (thread_id claim.pid 1) ≡ false
+      of_claim claim e true q =
+          other_thread id (thread_id claim.pid 1) (λ same. other (same ∙ same_pid claim.pid doing.pid (eqb-true claim.pid.0 doing.pid.0 q)))
+      of_claim claim e false q =
+          let before = (keeps.claims TIMER_INTERRUPT claim (λ same. false≢true (sym q ∙ eq-eqb claim.pid.0 doing.pid.0 (ap (λ (x : Pid). x.0) same)))).0 e in
+          sym (ap (λ o. option_map_or (λ (c : Claim). same_thread id (thread_id c.pid 1)) o false) before) ∙ untimed
+
+      go : (o : Option Claim) → told.machine.claims TIMER_INTERRUPT ≡ o
+          → option_map_or (λ (c : Claim). same_thread id (thread_id c.pid 1)) o false ≡ false
+      go None e = refl
+      go (Some claim) e = of_claim claim e (claim.pid.0 == doing.pid.0) refl
+
+  pub timed_others : KeepsOthers doing (timed told).machine
+  timed_others =
+      let raised = timed_raised told in
+      subst (KeepsOthers doing) (sym raised.is)
+      (record {
+        threads = λ id other untimed.
+            subst (ThreadFate doing told.machine.servers id)
+            (sym (ap (λ (x : Machine). x.threads id) (sym raised.is) ∙ timed_other id told (still_untimed id other untimed)))
+            (keeps.threads id other);
+        process = keeps.process;
+        claims = keeps.claims;
+        servers = keeps.servers;
+        homes = keeps.pages.homes;
+        orphans = keeps.pages.orphans;
+      })
+
+-- ---- a call
+
+module _ (m : Machine) (h : Matched m) (who : ThreadId) (w : List ℕ) where
+  abbrev here : Machine
+  here = turned_to who m
+
+  abbrev doing : Doing
+  doing = by_call who w m
+
+  -- what doesn't touch anything of another
+  pub left_alone : (after : Machine) → ((id : ThreadId) → id.pid ≢ who.pid → after.threads id ≡ m.threads id)
+      → ((other : Pid) → after.process other.0 ≡ m.process other.0) → after.claims ≡ m.claims → after.servers ≡ m.servers → after.ledger ≡ m.ledger
+      → KeepsParts doing after
+  left_alone after threads process claims servers ledger = record {
+    threads = λ id other. ThreadStays (threads id other);
+    process = λ other apart. process other;
+    claims = λ k claim other. (λ f. ap (λ all. all k) (sym claims) ∙ f, λ f. ap (λ all. all k) claims ∙ f);
+    servers = λ n. ServerStays (ap (λ all. all n) servers);
+    pages = record {
+      homes = λ p other. PageStays (ap (λ l. l.home p) ledger);
+      orphans = λ q other. OrphanStays (ap (λ l. l.orphan q) ledger);
+    };
+  }
+
+  other_put : (change : Thread → Thread) (id : ThreadId) → id.pid ≢ who.pid
+      → put_at same_thread m.threads who (option_map change (m.threads who)) id ≡ m.threads id
+  other_put change id other = ap (λ b. if b then option_map change (m.threads who) else m.threads id) (other_thread id who other)
+
+  refused_parts : (error : XousError) → KeepsParts doing (call_settled here (Refused error)).machine
+  unfolding call_settled
+  refused_parts error =
+      left_alone (call_settled here (Refused error)).machine (other_put (with_refusal error)) (λ other. refl) refl refl refl
+
+  retried_parts : KeepsParts doing (call_settled here Retried).machine
+  unfolding call_settled turn
+  retried_parts = left_alone (call_settled here Retried).machine (λ id other. refl) (λ other. refl) refl refl refl
+
+  served_parts : (change : Change) → KeepsChange doing change → KeepsParts doing (call_settled here (Served change)).machine
+  unfolding call_settled
+  served_parts change keeps =
+      settled_parts doing (record change {
+        machine = record change.machine {
+          threads = put_at same_thread change.machine.threads who (option_map passed (change.machine.threads who));
+        };
+      })
+      (record {
+        threads = record {
+          same = λ id other.
+              ap (λ b. if b then option_map passed (change.machine.threads who) else change.machine.threads id) (other_thread id who other)
+              ∙ keeps.threads.same id other;
+          why = keeps.threads.why;
+        };
+        process = keeps.process;
+        claims = keeps.claims;
+        servers = keeps.servers;
+        pages = keeps.pages;
+      })
+
+  terminates_threads : OfPlan (λ plan. KeepsThreads doing (done here plan)) (terminate_row here w)
+  unfolding death servers_closed closed any_server
+  terminates_threads = dead_threads m h who.pid who m.reserved m.threads (λ id other. refl) doing.call
+
+  terminates_servers : OfPlan (λ plan. KeepsServers doing (done here plan).machine) (terminate_row here w)
+  unfolding death servers_closed
+  terminates_servers = dead_servers m h who.pid who m.reserved m.threads (λ id other. refl) doing.call
+
+  terminates_pages : OfPlan (λ plan. KeepsPages who.pid m.ledger (done here plan).machine.ledger) (terminate_row here w)
+  unfolding death servers_closed
+  terminates_pages = dead_pages m h who.pid who m.reserved m.threads (λ id other. refl) doing.call
+
+  pub called_parts : KeepsParts doing (call_settled here (call here w)).machine
+  called_parts =
+      go (call here w) (call_threads m who w h terminates_threads) (call_processes m who w) (call_claims m who w)
+      (call_servers m who w h terminates_servers) (call_pages m who w h terminates_pages)
+    where
+      go : (outcome : Outcome) → OfServed (KeepsThreads doing) outcome → OfServed (λ change. KeepsProcesses m who.pid change.machine) outcome
+          → OfServed (λ change. KeepsClaims m who.pid change.machine) outcome → OfServed (λ change. KeepsServers doing change.machine) outcome
+          → OfServed (λ change. KeepsPages who.pid m.ledger change.machine.ledger) outcome → KeepsParts doing (call_settled here outcome).machine
+      go (Refused error) a b c d e = refused_parts error
+      go Retried a b c d e = retried_parts
+      go (Served change) a b c d e =
+          served_parts change (record { threads = a; process = b; claims = c; servers = d; pages = e })
+
+-- the step that makes the call
+pub call_keeps : CallKeepsOthers
+unfolding call_by
+call_keeps m who words h acts c = go (m.threads who) refl c
+  where
+    go : (o : Option Thread) → m.threads who ≡ o → option_and_then (λ t. option_and_then (words_if_call t) (executes m who t)) o ≡ Some words
+        → KeepsOthers (by_call who words m) (step m).machine
+    go None q r = absurd (none-some words r)
+    go (Some t) q r =
+        subst (KeepsOthers (by_call who words m)) (sym (step_of_thread m who t acts q))
+        (timed_others (by_call who words m) (counted (turned_to who m) (Some t) (acted (turned_to who m) t))
+        (counted_parts (by_call who words m) (turned_to who m) t (acted (turned_to who m) t)
+        (subst (KeepsParts (by_call who words m)) (sym (acted_call m who words t r)) (called_parts m h who words))))

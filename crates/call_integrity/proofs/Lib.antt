@@ -1,0 +1,11 @@
+pub mod AnswerLemmas
+pub mod BroughtLemmas
+pub mod CallLemmas
+pub mod DeathLemmas
+pub mod LedgerLemmas
+pub mod OrphanLemmas
+pub mod OtherLemmas
+pub mod PageLemmas
+pub mod PlainPartLemmas
+pub mod ServerLemmas
+pub mod ThreadLemmas
