@@ -1,4 +1,4 @@
--- A call keeps what is another's: all parts, and then the timer.
+-- A call keeps what is another's.
 use Rattle.std.proofs.Common.{◌≡◌, ◌≢◌, ℕ, Bool, true, false, List, Option, Some, None, refl, sym, ap, ◌∙◌, subst}
 use Rattle.std.specs.Prelude.{◌==◌, if◌then◌else◌}
 use Rattle.std.specs.Option.{option_and_then, option_map, option_map_or}
@@ -38,84 +38,7 @@ use Rattle.call_integrity.proofs.PlainPartLemmas.{KeepsClaims, KeepsProcesses, c
 use Rattle.call_integrity.proofs.ServerLemmas.{KeepsServers, call_servers}
 use Rattle.call_integrity.proofs.ThreadLemmas.{KeepsThreads, call_threads}
 
--- ---- all parts of a change, before the timer
-
--- what becomes of all that is another's, the timer apart
-pub record KeepsParts (doing : Doing) (after : Machine) : Type 0 where
-  pub threads : (id : ThreadId) → id.pid ≢ doing.pid → ThreadFate doing after.servers id (after.threads id)
-  pub process : KeepsProcesses doing.before doing.pid after
-  pub claims : KeepsClaims doing.before doing.pid after
-  pub servers : KeepsServers doing after
-  pub pages : KeepsPages doing.pid doing.before.ledger after.ledger
-
--- .. of a change
-pub record KeepsChange (doing : Doing) (change : Change) : Type 0 where
-  pub threads : KeepsThreads doing change
-  pub process : KeepsProcesses doing.before doing.pid change.machine
-  pub claims : KeepsClaims doing.before doing.pid change.machine
-  pub servers : KeepsServers doing change.machine
-  pub pages : KeepsPages doing.pid doing.before.ledger change.machine.ledger
-
-pub settled_parts : (doing : Doing) (change : Change) → KeepsChange doing change → KeepsParts doing (settled change).machine
-unfolding settled
-settled_parts doing change keeps = record {
-  threads = λ id other.
-      answered_fate doing change.machine.servers id (change.answers id) (change.machine.threads id) (keeps.threads.same id other)
-      (keeps.threads.why id other);
-  process = keeps.process;
-  claims = keeps.claims;
-  servers = keeps.servers;
-  pages = keeps.pages;
-}
-
--- the count of the step and the reservation touch nothing of it
-pub counted_parts : (doing : Doing) (m : Machine) (t : Thread) (told : Told) → KeepsParts doing told.machine
-    → KeepsParts doing (counted m (Some t) told).machine
-counted_parts doing m t told keeps = record {
-  threads = keeps.threads;
-  process = keeps.process;
-  claims = keeps.claims;
-  servers = keeps.servers;
-  pages = keeps.pages;
-}
-
--- ---- the timer
-
-module _ (doing : Doing) (told : Told) (keeps : KeepsParts doing told.machine) where
-  -- whose handler the timer may start isn't another's afterwards that wasn't so before
-  still_untimed : (id : ThreadId) → id.pid ≢ doing.pid → is_of_timer doing.before id ≡ false → is_of_timer told.machine id ≡ false
-  still_untimed id other untimed = go (told.machine.claims TIMER_INTERRUPT) refl
-    where
-      of_claim : (claim : Claim) → told.machine.claims TIMER_INTERRUPT ≡ Some claim → (b : Bool) → (claim.pid.0 == doing.pid.0) ≡ b
-          → same_thread id (thread_id claim.pid 1) ≡ false
-      of_claim claim e true q =
-          other_thread id (thread_id claim.pid 1) (λ same. other (same ∙ same_pid claim.pid doing.pid (eqb-true claim.pid.0 doing.pid.0 q)))
-      of_claim claim e false q =
-          let before = (keeps.claims TIMER_INTERRUPT claim (λ same. false≢true (sym q ∙ eq-eqb claim.pid.0 doing.pid.0 (ap (λ (x : Pid). x.0) same)))).0 e in
-          sym (ap (λ o. option_map_or (λ (c : Claim). same_thread id (thread_id c.pid 1)) o false) before) ∙ untimed
-
-      go : (o : Option Claim) → told.machine.claims TIMER_INTERRUPT ≡ o
-          → option_map_or (λ (c : Claim). same_thread id (thread_id c.pid 1)) o false ≡ false
-      go None e = refl
-      go (Some claim) e = of_claim claim e (claim.pid.0 == doing.pid.0) refl
-
-  pub timed_others : KeepsOthers doing (timed told).machine
-  timed_others =
-      let raised = timed_raised told in
-      subst (KeepsOthers doing) (sym raised.is)
-      (record {
-        threads = λ id other untimed.
-            subst (ThreadFate doing told.machine.servers id)
-            (sym (ap (λ (x : Machine). x.threads id) (sym raised.is) ∙ timed_other id told (still_untimed id other untimed)))
-            (keeps.threads id other);
-        process = keeps.process;
-        claims = keeps.claims;
-        servers = keeps.servers;
-        homes = keeps.pages.homes;
-        orphans = keeps.pages.orphans;
-      })
-
--- ---- a call
+use Rattle.call_integrity.proofs.PartLemmas.{KeepsChange, KeepsParts, left_parts, settled_parts, step_others}
 
 module _ (m : Machine) (h : Matched m) (who : ThreadId) (w : List ℕ) where
   abbrev here : Machine
@@ -124,21 +47,6 @@ module _ (m : Machine) (h : Matched m) (who : ThreadId) (w : List ℕ) where
   abbrev doing : Doing
   doing = by_call who w m
 
-  -- what doesn't touch anything of another
-  pub left_alone : (after : Machine) → ((id : ThreadId) → id.pid ≢ who.pid → after.threads id ≡ m.threads id)
-      → ((other : Pid) → after.process other.0 ≡ m.process other.0) → after.claims ≡ m.claims → after.servers ≡ m.servers → after.ledger ≡ m.ledger
-      → KeepsParts doing after
-  left_alone after threads process claims servers ledger = record {
-    threads = λ id other. ThreadStays (threads id other);
-    process = λ other apart. process other;
-    claims = λ k claim other. (λ f. ap (λ all. all k) (sym claims) ∙ f, λ f. ap (λ all. all k) claims ∙ f);
-    servers = λ n. ServerStays (ap (λ all. all n) servers);
-    pages = record {
-      homes = λ p other. PageStays (ap (λ l. l.home p) ledger);
-      orphans = λ q other. OrphanStays (ap (λ l. l.orphan q) ledger);
-    };
-  }
-
   other_put : (change : Thread → Thread) (id : ThreadId) → id.pid ≢ who.pid
       → put_at same_thread m.threads who (option_map change (m.threads who)) id ≡ m.threads id
   other_put change id other = ap (λ b. if b then option_map change (m.threads who) else m.threads id) (other_thread id who other)
@@ -146,11 +54,14 @@ module _ (m : Machine) (h : Matched m) (who : ThreadId) (w : List ℕ) where
   refused_parts : (error : XousError) → KeepsParts doing (call_settled here (Refused error)).machine
   unfolding call_settled
   refused_parts error =
-      left_alone (call_settled here (Refused error)).machine (other_put (with_refusal error)) (λ other. refl) refl refl refl
+      left_parts doing (call_settled here (Refused error)).machine
+      (record { threads = other_put (with_refusal error); process = refl; claims = refl; servers = refl; ledger = refl })
 
   retried_parts : KeepsParts doing (call_settled here Retried).machine
   unfolding call_settled turn
-  retried_parts = left_alone (call_settled here Retried).machine (λ id other. refl) (λ other. refl) refl refl refl
+  retried_parts =
+      left_parts doing (call_settled here Retried).machine
+      (record { threads = λ id other. refl; process = refl; claims = refl; servers = refl; ledger = refl })
 
   served_parts : (change : Change) → KeepsChange doing change → KeepsParts doing (call_settled here (Served change)).machine
   unfolding call_settled
@@ -207,7 +118,5 @@ call_keeps m who words h acts c = go (m.threads who) refl c
         → KeepsOthers (by_call who words m) (step m).machine
     go None q r = absurd (none-some words r)
     go (Some t) q r =
-        subst (KeepsOthers (by_call who words m)) (sym (step_of_thread m who t acts q))
-        (timed_others (by_call who words m) (counted (turned_to who m) (Some t) (acted (turned_to who m) t))
-        (counted_parts (by_call who words m) (turned_to who m) t (acted (turned_to who m) t)
-        (subst (KeepsParts (by_call who words m)) (sym (acted_call m who words t r)) (called_parts m h who words))))
+        step_others (by_call who words m) m who t acts q
+        (subst (KeepsParts (by_call who words m)) (sym (acted_call m who words t r)) (called_parts m h who words))
