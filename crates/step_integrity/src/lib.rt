@@ -1,9 +1,9 @@
-//! Integrity of a system call: what it leaves of all that is another's, and what it may make of the rest. The functions have no code;
-//! their contracts are the laws, and the lemmas stand in `proofs/`.
+//! Integrity of every step and event: what may become of all that is another's. The functions have no code; their contracts are the
+//! laws, and the lemmas stand in `proofs/`.
 #![tactic(auto)]
 
-ghost use Rattle.call_integrity.specs.Causes.{AllKeepOthers, HistoriesKeepOthers};
-ghost use Rattle.call_integrity.specs.KeptOthers.{CallKeepsOthers};
+ghost use Rattle.step_integrity.specs.Causes.{AllKeepOthers, HistoriesKeepOthers};
+ghost use Rattle.step_integrity.specs.KeptOthers.{CallKeepsOthers};
 
 /// **A call keeps what is another's.** Another process's thread is unchanged, or is answered with what the call brings or returns, or that
 /// the server is gone that it waits for; its life, heap and connections are unchanged, and so are its claims; its servers stay, and gain

@@ -1,6 +1,6 @@
-use Rattle.call_integrity.proofs.HistoryLemmas.{histories_keep}
-use Rattle.call_integrity.proofs.StepLemmas.{all_keep}
-use Rattle.call_integrity.proofs.all_keep_others.Goals as goal
+use Rattle.step_integrity.proofs.HistoryLemmas.{histories_keep}
+use Rattle.step_integrity.proofs.StepLemmas.{all_keep}
+use Rattle.step_integrity.proofs.all_keep_others.Goals as goal
 
 -- src/lib.rt
 pub returns-clause-causes : goal.returns-clause-causes

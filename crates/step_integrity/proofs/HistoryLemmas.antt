@@ -1,15 +1,15 @@
 -- What each moment of a run keeps of others, and so of a history.
-use Rattle.std.proofs.Common.{◌≡◌, zero, suc, ℕ, List, [], ◌∷◌, Some, refl, sym, ap, ◌∙◌, subst}
+use Rattle.std.proofs.Common.{◌≡◌, zero, suc, ℕ, List, [], ◌∷◌, Some, sym, subst}
 use Rattle.std.specs.Prelude.{slice_get}
 use Rattle.std.proofs.lemmas.Option.{none-some, same_Some}
 use Rattle.machine_model.specs.Runs.Matched.{Matched}
-use Rattle.machine_model.specs.Runs.Moments.{IsRun, Moment, caused, state_at}
+use Rattle.machine_model.specs.Runs.Moments.{IsRun, Moment, state_at}
 use Rattle.machine_model.specs.State.Machine.{Machine}
 use Rattle.machine_history.specs.HistoryMoments.{moments_of}
 use Rattle.machine_history.proofs.Histories.MomentLemmas.{history_is_run}
 use Rattle.machine_laws.proofs.Stepping.EveryStepLemmas.{every_cause_keeps}
-use Rattle.call_integrity.specs.Causes.{HistoriesKeepOthers, OthersAt}
-use Rattle.call_integrity.proofs.StepLemmas.{all_keep}
+use Rattle.step_integrity.specs.Causes.{HistoriesKeepOthers, OthersAt}
+use Rattle.step_integrity.proofs.StepLemmas.{all_keep}
 
 run_keeps : (start : Machine) (moments : List Moment) → Matched start → IsRun start moments → (i : ℕ) (moment : Moment)
     → slice_get moments i ≡ Some moment → OthersAt moment.cause (state_at start moments i) moment.machine

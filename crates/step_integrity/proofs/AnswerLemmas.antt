@@ -24,7 +24,7 @@ use Rattle.machine_laws.proofs.Sending.SentReceiverLemmas.{receiver_receives}
 use Rattle.machine_laws.proofs.Threading.ThreadPutLemmas.{alike}
 use Rattle.call_effects.specs.Rows.MessageRows.{arrival_answers}
 use Rattle.integrity_laws.proofs.InstructionLemmas.{unanswered}
-use Rattle.call_integrity.specs.Fates.{Answered, Doing, IsAnswered, IsAtServerOf, IsBrought, MadeCall, Receives, Returned, ThreadStays, ThreadFate, Unserved, returned_by}
+use Rattle.step_integrity.specs.Fates.{Answered, Doing, IsAnswered, IsAtServerOf, IsBrought, MadeCall, Receives, Returned, ThreadStays, ThreadFate, Unserved, returned_by}
 
 -- the sender of a message that waits for its answer
 pub its_sender : (id : ThreadId) (message : Message) → is_sent_by id message ≡ true → message.sender ≡ Some id

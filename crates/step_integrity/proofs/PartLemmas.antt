@@ -1,8 +1,8 @@
 -- What is kept of others, all parts together: by a change before and after its answers are given, by the count of the step, and by the
 -- timer that comes last.
-use Rattle.std.proofs.Common.{◌≡◌, ◌≢◌, ℕ, ◌+◌, Bool, true, false, List, [], Option, Some, None, refl, sym, ap, ◌∙◌, subst}
-use Rattle.std.specs.Prelude.{◌==◌, if◌then◌else◌}
-use Rattle.std.specs.Option.{option_and_then, option_map, option_map_or}
+use Rattle.std.proofs.Common.{◌≡◌, ◌≢◌, Bool, true, false, Option, Some, None, refl, sym, ap, ◌∙◌, subst}
+use Rattle.std.specs.Prelude.{◌==◌}
+use Rattle.std.specs.Option.{option_map_or}
 use Rattle.std.proofs.lemmas.Bool.{eqb-true, eq-eqb, false≢true}
 use Rattle.xk_base.specs.declared.ids.Pid.{Pid}
 use Rattle.xk_base.specs.declared.ids.ThreadId.{ThreadId}
@@ -19,14 +19,14 @@ use Rattle.machine_model.proofs.Runs.TimerLemmas.{timed_raised}
 use Rattle.machine_laws.proofs.Threading.ThreadStepLemmas.{step_of_thread, turned_to}
 use Rattle.integrity_laws.specs.Integrity.{is_of_timer}
 use Rattle.integrity_laws.proofs.InstructionLemmas.{other_thread, timed_other}
-use Rattle.call_integrity.specs.Fates.{Doing, OrphanStays, PageStays, ServerStays, ThreadFate, ThreadStays}
-use Rattle.call_integrity.specs.KeptOthers.{KeepsOthers}
-use Rattle.call_integrity.proofs.AnswerLemmas.{answered_fate}
-use Rattle.call_integrity.proofs.OtherLemmas.{same_pid}
-use Rattle.call_integrity.proofs.PageLemmas.{KeepsPages}
-use Rattle.call_integrity.proofs.PlainPartLemmas.{KeepsClaims, KeepsProcesses}
-use Rattle.call_integrity.proofs.ServerLemmas.{KeepsServers}
-use Rattle.call_integrity.proofs.ThreadLemmas.{KeepsThreads}
+use Rattle.step_integrity.specs.Fates.{Doing, OrphanStays, PageStays, ServerStays, ThreadFate, ThreadStays}
+use Rattle.step_integrity.specs.KeptOthers.{KeepsOthers}
+use Rattle.step_integrity.proofs.AnswerLemmas.{answered_fate}
+use Rattle.step_integrity.proofs.OtherLemmas.{same_pid}
+use Rattle.step_integrity.proofs.PageLemmas.{KeepsPages}
+use Rattle.step_integrity.proofs.PlainPartLemmas.{KeepsClaims, KeepsProcesses}
+use Rattle.step_integrity.proofs.ServerLemmas.{KeepsServers}
+use Rattle.step_integrity.proofs.ThreadLemmas.{KeepsThreads}
 
 -- ---- all parts of a change, before the timer
 

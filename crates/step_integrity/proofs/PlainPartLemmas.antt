@@ -25,7 +25,7 @@ use Rattle.call_effects.proofs.PartLemmas.{OfChanging, of_parts}
 use Rattle.call_effects.proofs.RowLemmas.{◌also◌}
 use Rattle.call_effects.proofs.ServedLemmas.{OfServed}
 use Rattle.isolation_laws.proofs.Keeping.CallLemmas.{none_hold}
-use Rattle.call_integrity.proofs.OtherLemmas.{apart_pid, same_pid}
+use Rattle.step_integrity.proofs.OtherLemmas.{apart_pid, same_pid}
 
 module _ (m : Machine) (pid : Pid) where
   -- the other processes are as before

@@ -15,8 +15,8 @@ use Rattle.ledger_model.specs.Steps.{end_loan, give, lend, make, make_console, n
 use Rattle.ledger_model.proofs.PlaceLemmas.{same_place-true}
 use Rattle.machine_model.specs.Calling.MemoryCalls.{mapped_ledger}
 use Rattle.machine_model.specs.Messaging.LoanSets.{end_loans, freed_but, loan_but, orphan_but}
-use Rattle.call_integrity.specs.Fates.{Comes, HomeFate, LoanEnds, LoanPasses, OrphanFate, OrphanStays, PageStays}
-use Rattle.call_integrity.proofs.OtherLemmas.{not_in_run}
+use Rattle.step_integrity.specs.Fates.{Comes, HomeFate, LoanEnds, LoanPasses, OrphanFate, OrphanStays, PageStays}
+use Rattle.step_integrity.proofs.OtherLemmas.{not_in_run}
 
 -- what becomes of the pages and the orphans of all others
 pub record KeepsPages (pid : Pid) (before after : Ledger) : Type 0 where

@@ -1,44 +1,35 @@
 -- A call keeps what is another's.
-use Rattle.std.proofs.Common.{◌≡◌, ◌≢◌, ℕ, Bool, true, false, List, Option, Some, None, refl, sym, ap, ◌∙◌, subst}
-use Rattle.std.specs.Prelude.{◌==◌, if◌then◌else◌}
-use Rattle.std.specs.Option.{option_and_then, option_map, option_map_or}
-use Rattle.std.proofs.lemmas.Bool.{eqb-true, eq-eqb, false≢true}
+use Rattle.std.proofs.Common.{◌≡◌, ◌≢◌, ℕ, List, Option, Some, None, refl, sym, ap, ◌∙◌, subst}
+use Rattle.std.specs.Prelude.{if◌then◌else◌}
+use Rattle.std.specs.Option.{option_and_then, option_map}
 use Rattle.std.proofs.lemmas.Option.{none-some}
 use Rattle.xk_base.specs.declared.errors.XousError.{XousError}
-use Rattle.xk_base.specs.declared.ids.Pid.{Pid}
 use Rattle.xk_base.specs.declared.ids.ThreadId.{ThreadId}
-use Rattle.xk_base.specs.declared.limits.TheConstants.{TIMER_INTERRUPT}
 use Rattle.xk_base.specs.Tables.Circle.{same_thread}
 use Rattle.xk_base.specs.Tables.Counting.{put_at}
 use Rattle.machine_model.specs.Calling.Calls.{call}
 use Rattle.machine_model.specs.Ending.Closing.{any_server, closed, servers_closed}
 use Rattle.machine_model.specs.Ending.Ends.{death}
 use Rattle.machine_model.specs.Runs.Matched.{Matched}
-use Rattle.machine_model.specs.State.Changes.{Change, Outcome, Refused, Retried, Served, Told, call_settled, settled, with_refusal}
-use Rattle.machine_model.specs.State.Machine.{Claim, Machine, Thread}
+use Rattle.machine_model.specs.State.Changes.{Change, Outcome, Refused, Retried, Served, call_settled, with_refusal}
+use Rattle.machine_model.specs.State.Machine.{Machine, Thread}
 use Rattle.machine_model.specs.State.Order.{turn}
-use Rattle.machine_model.specs.State.Threads.{passed, thread_id}
+use Rattle.machine_model.specs.State.Threads.{passed}
 use Rattle.machine_model.specs.Stepping.Acts.{call_by, executes, words_if_call}
-use Rattle.machine_model.specs.Stepping.Step.{acted, counted, step}
-use Rattle.machine_model.specs.Stepping.Timer.{timed}
-use Rattle.machine_model.proofs.Runs.TimerLemmas.{timed_raised}
-use Rattle.machine_laws.proofs.Threading.ThreadStepLemmas.{acted_call, step_of_thread, turned_to}
+use Rattle.machine_model.specs.Stepping.Step.{step}
+use Rattle.machine_laws.proofs.Threading.ThreadStepLemmas.{acted_call, turned_to}
 use Rattle.call_effects.specs.Rows.ThreadRows.{terminate_row}
 use Rattle.call_effects.proofs.ServedLemmas.{OfPlan, OfServed, done}
-use Rattle.integrity_laws.specs.Integrity.{is_of_timer}
-use Rattle.integrity_laws.proofs.InstructionLemmas.{other_thread, timed_other}
-use Rattle.call_integrity.specs.Fates.{Doing, OrphanStays, PageStays, ServerStays, ThreadFate, ThreadStays}
-use Rattle.call_integrity.specs.KeptOthers.{CallKeepsOthers, KeepsOthers, by_call}
-use Rattle.call_integrity.proofs.AnswerLemmas.{answered_fate}
-use Rattle.call_integrity.proofs.DeathLemmas.{dead_pages, dead_servers, dead_threads}
-use Rattle.call_integrity.proofs.LedgerLemmas.{call_pages}
-use Rattle.call_integrity.proofs.OtherLemmas.{same_pid}
-use Rattle.call_integrity.proofs.PageLemmas.{KeepsPages}
-use Rattle.call_integrity.proofs.PlainPartLemmas.{KeepsClaims, KeepsProcesses, call_claims, call_processes}
-use Rattle.call_integrity.proofs.ServerLemmas.{KeepsServers, call_servers}
-use Rattle.call_integrity.proofs.ThreadLemmas.{KeepsThreads, call_threads}
-
-use Rattle.call_integrity.proofs.PartLemmas.{KeepsChange, KeepsParts, left_parts, settled_parts, step_others}
+use Rattle.integrity_laws.proofs.InstructionLemmas.{other_thread}
+use Rattle.step_integrity.specs.Fates.{Doing}
+use Rattle.step_integrity.specs.KeptOthers.{CallKeepsOthers, KeepsOthers, by_call}
+use Rattle.step_integrity.proofs.DeathLemmas.{dead_pages, dead_servers, dead_threads}
+use Rattle.step_integrity.proofs.LedgerLemmas.{call_pages}
+use Rattle.step_integrity.proofs.PageLemmas.{KeepsPages}
+use Rattle.step_integrity.proofs.PlainPartLemmas.{KeepsClaims, KeepsProcesses, call_claims, call_processes}
+use Rattle.step_integrity.proofs.ServerLemmas.{KeepsServers, call_servers}
+use Rattle.step_integrity.proofs.ThreadLemmas.{KeepsThreads, call_threads}
+use Rattle.step_integrity.proofs.PartLemmas.{KeepsChange, KeepsParts, left_parts, settled_parts, step_others}
 
 module _ (m : Machine) (h : Matched m) (who : ThreadId) (w : List ℕ) where
   abbrev here : Machine

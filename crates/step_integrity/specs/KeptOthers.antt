@@ -9,7 +9,7 @@ use Rattle.machine_model.specs.State.Order.{actor}
 use Rattle.machine_model.specs.Stepping.Acts.{call_by}
 use Rattle.machine_model.specs.Stepping.Step.{step}
 use Rattle.integrity_laws.specs.Integrity.{is_of_timer}
-use Rattle.call_integrity.specs.Fates.{Doing, HomeFate, OrphanFate, ServerFate, ThreadFate}
+use Rattle.step_integrity.specs.Fates.{Doing, HomeFate, OrphanFate, ServerFate, ThreadFate}
 
 -- the call of this thread with these words
 abbrev pub by_call : ThreadId → List ℕ → Machine → Doing

@@ -48,10 +48,10 @@ use Rattle.call_effects.proofs.RowLemmas.{◌also◌}
 use Rattle.call_effects.proofs.ServedLemmas.{OfPlan, OfServed, done}
 use Rattle.isolation_laws.proofs.Keeping.CallLemmas.{none_hold}
 use Rattle.inside_laws.proofs.Seeing.RowLemmas.{first_none, is_there, own_server}
-use Rattle.call_integrity.specs.Fates.{Doing, Gains, IsBrought, IsSend, MadeCall, Own, ServerStays, ServerFate}
-use Rattle.call_integrity.specs.KeptOthers.{by_call}
-use Rattle.call_integrity.proofs.BroughtLemmas.{passed_brought, sent_brought}
-use Rattle.call_integrity.proofs.OtherLemmas.{server_pid}
+use Rattle.step_integrity.specs.Fates.{Doing, Gains, IsBrought, IsSend, MadeCall, Own, ServerStays, ServerFate}
+use Rattle.step_integrity.specs.KeptOthers.{by_call}
+use Rattle.step_integrity.proofs.BroughtLemmas.{passed_brought, sent_brought}
+use Rattle.step_integrity.proofs.OtherLemmas.{server_pid}
 
 -- what becomes of all servers
 abbrev pub KeepsServers : Doing → Machine → Type 0

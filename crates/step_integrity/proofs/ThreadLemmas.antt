@@ -49,11 +49,11 @@ use Rattle.call_effects.proofs.ServedLemmas.{OfPlan, OfServed, done, of_both, of
 use Rattle.integrity_laws.proofs.InstructionLemmas.{other_thread}
 use Rattle.isolation_laws.proofs.Keeping.CallLemmas.{none_hold}
 use Rattle.inside_laws.proofs.Seeing.RowLemmas.{first_none, own_server}
-use Rattle.call_integrity.specs.Fates.{Doing, IsAnswered, IsSend, MadeCall, returned_by}
-use Rattle.call_integrity.specs.KeptOthers.{by_call}
-use Rattle.call_integrity.proofs.AnswerLemmas.{arrival_why, either_why, not_why, returned_why, unserved_why}
-use Rattle.call_integrity.proofs.BroughtLemmas.{held_there, passed_brought, sent_brought}
-use Rattle.call_integrity.proofs.OtherLemmas.{server_pid}
+use Rattle.step_integrity.specs.Fates.{Doing, IsAnswered, IsSend, MadeCall, returned_by}
+use Rattle.step_integrity.specs.KeptOthers.{by_call}
+use Rattle.step_integrity.proofs.AnswerLemmas.{arrival_why, either_why, not_why, returned_why, unserved_why}
+use Rattle.step_integrity.proofs.BroughtLemmas.{held_there, passed_brought, sent_brought}
+use Rattle.step_integrity.proofs.OtherLemmas.{server_pid}
 
 -- Another's threads are there as before, and are answered only with cause.
 pub record KeepsThreads (doing : Doing) (change : Change) : Type 0 where

@@ -13,8 +13,8 @@ use Rattle.machine_model.specs.State.Threads.{thread_id}
 use Rattle.machine_model.specs.Stepping.Acts.{call_by, does_instruction}
 use Rattle.machine_history.specs.HistoryMoments.{moments_of}
 use Rattle.integrity_laws.specs.Integrity.{LeavesOthers}
-use Rattle.call_integrity.specs.Fates.{Doing}
-use Rattle.call_integrity.specs.KeptOthers.{KeepsOthers}
+use Rattle.step_integrity.specs.Fates.{Doing}
+use Rattle.step_integrity.specs.KeptOthers.{KeepsOthers}
 
 -- ---- by a process
 

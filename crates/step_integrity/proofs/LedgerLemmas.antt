@@ -49,9 +49,9 @@ use Rattle.isolation_laws.proofs.Keeping.CallLemmas.{none_hold}
 use Rattle.isolation_laws.proofs.Keeping.MemoryCallLemmas.{HasNoHome}
 use Rattle.inside_laws.proofs.Seeing.HeldLemmas.{HasLoans, has_loans}
 use Rattle.inside_laws.proofs.Seeing.RowLemmas.{IsHeld, caller_holds, held_is, is_there, own_server, this_held, to_free}
-use Rattle.call_integrity.proofs.OrphanLemmas.{at_its_server, at_servers_of}
-use Rattle.call_integrity.proofs.OtherLemmas.{same_pid, server_pid}
-use Rattle.call_integrity.proofs.PageLemmas.{KeepsPages, end_loan_keeps, end_loans_keep, give_keeps, keeps_all, lend_keeps, make_keeps, maps_keep, pass_keeps, reduce_keeps, remove_keeps}
+use Rattle.step_integrity.proofs.OrphanLemmas.{at_its_server, at_servers_of}
+use Rattle.step_integrity.proofs.OtherLemmas.{same_pid, server_pid}
+use Rattle.step_integrity.proofs.PageLemmas.{KeepsPages, end_loan_keeps, end_loans_keep, give_keeps, keeps_all, lend_keeps, make_keeps, maps_keep, pass_keeps, reduce_keeps, remove_keeps}
 
 module _ (m : Machine) (who : ThreadId) (w : List ℕ) where
   abbrev here : Machine

@@ -27,7 +27,7 @@ use Rattle.machine_model.proofs.Matching.OneMessageLemmas.{HasServer, one_server
 use Rattle.machine_laws.proofs.Messaging.AnyServerLemmas.{AreApart, messages_apart, number_counted, one_listed, only_at}
 use Rattle.machine_laws.proofs.Messaging.ListedLemmas.{PassingServer, listed_at, passing_server}
 use Rattle.inside_laws.proofs.Seeing.HeldLemmas.{HasLoans}
-use Rattle.call_integrity.proofs.OtherLemmas.{same_pid}
+use Rattle.step_integrity.proofs.OtherLemmas.{same_pid}
 
 module _ (m : Machine) (h : HasLoans m) (q : Place) (orphan : Orphan) (there : m.ledger.orphan q ≡ Some orphan) where
   -- ---- its lend

@@ -19,8 +19,8 @@ use Rattle.machine_model.specs.Messaging.SendCalls.{named_kind}
 use Rattle.machine_model.specs.State.Machine.{Machine}
 use Rattle.machine_laws.proofs.Threading.ThreadStepLemmas.{turned_to}
 use Rattle.inside_laws.proofs.Seeing.RowLemmas.{IsHeld, held_is}
-use Rattle.call_integrity.specs.Fates.{IsAtServerOf, IsBrought, IsSend, MadeCall, Passed, Sent}
-use Rattle.call_integrity.proofs.OtherLemmas.{same_pid}
+use Rattle.step_integrity.specs.Fates.{IsAtServerOf, IsBrought, IsSend, MadeCall, Passed, Sent}
+use Rattle.step_integrity.proofs.OtherLemmas.{same_pid}
 
 module _ (m : Machine) (who : ThreadId) (w : List ℕ) where
   abbrev here : Machine

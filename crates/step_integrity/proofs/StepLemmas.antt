@@ -1,6 +1,6 @@
 -- Faults, ends of threads and of handlers, kills, and every other cause keep what is another's.
-use Rattle.std.proofs.Common.{◌≡◌, ◌≢◌, ℕ, ◌+◌, Bool, ◌&&◌, true, false, List, [], Option, Some, None, refl, sym, ap, ◌∙◌, subst}
-use Rattle.std.specs.Prelude.{◌==◌, nat_eq, if◌then◌else◌}
+use Rattle.std.proofs.Common.{◌≡◌, ◌≢◌, ℕ, Bool, ◌&&◌, true, false, [], Option, Some, None, refl, sym, ap, ◌∙◌, subst}
+use Rattle.std.specs.Prelude.{nat_eq, if◌then◌else◌}
 use Rattle.std.specs.Option.{option_map, option_map_or, option_or}
 use Rattle.std.proofs.lemmas.Bool.{false≢true}
 use Rattle.xk_base.specs.declared.ids.Pid.{Pid}
@@ -12,28 +12,28 @@ use Rattle.xk_base.specs.Tables.Counting.{put_at}
 use Rattle.machine_model.specs.Ending.Ends.{death, end_with_last_thread, handler_ended, has_threads, is_joining, joiners_answered, thread_ended}
 use Rattle.machine_model.specs.Hart.Instructions.{CallsKernel, Executed, Next, Stores, StoresToConsole, StoresToTimer, Traps}
 use Rattle.machine_model.specs.Runs.Matched.{Matched}
-use Rattle.machine_model.specs.Runs.Moments.{ByIrq, ByKill, ByPick, ByStep, ByTurn, Cause, caused}
+use Rattle.machine_model.specs.Runs.Moments.{ByIrq, ByKill, ByPick, ByStep, ByTurn}
 use Rattle.machine_model.specs.State.Changes.{Change, settled}
 use Rattle.machine_model.specs.State.Machine.{Claim, Idle, Machine, Thread}
 use Rattle.machine_model.specs.State.Order.{actor, turn}
 use Rattle.machine_model.specs.State.Threads.{put_thread, thread_id, with_state}
-use Rattle.machine_model.specs.Stepping.Acts.{call_by, does_instruction, executes}
+use Rattle.machine_model.specs.Stepping.Acts.{does_instruction, executes}
 use Rattle.machine_model.specs.Stepping.Events.{killed, killed_if, picked, raised, raised_if}
-use Rattle.machine_model.specs.Stepping.Interrupts.{delivered, delivered_lowest, handler_started, is_free_for_interrupt, lowest_pending, pended}
+use Rattle.machine_model.specs.Stepping.Interrupts.{delivered, delivered_lowest, handler_started, is_free_for_interrupt, lowest_pending}
 use Rattle.machine_model.specs.Stepping.Reservations.{unreserved}
-use Rattle.machine_model.specs.Stepping.Step.{acted, ends_handler, ends_thread, performed, step}
+use Rattle.machine_model.specs.Stepping.Step.{ends_handler, performed, step}
 use Rattle.machine_model.proofs.Runs.TimerLemmas.{pended_raised}
 use Rattle.machine_laws.proofs.Stepping.StepKindLemmas.{Executes, HandlerEnds, StepKind, ThreadEnds, acted_as_executed, is_call, is_done, kind_of}
 use Rattle.machine_laws.proofs.Threading.ThreadStepLemmas.{then_acted, turned_to}
 use Rattle.integrity_laws.proofs.InstructionLemmas.{delivery_other, instruction_leaves, other_thread, unanswered}
-use Rattle.call_integrity.specs.Causes.{AllKeepOthers, LeavesAll, OthersAt, by_kill, by_step, is_of_claimant}
-use Rattle.call_integrity.specs.Fates.{Doing, MadeCall}
-use Rattle.call_integrity.specs.KeptOthers.{KeepsOthers, by_call}
-use Rattle.call_integrity.proofs.AnswerLemmas.{either_why, not_why}
-use Rattle.call_integrity.proofs.CallLemmas.{call_keeps}
-use Rattle.call_integrity.proofs.DeathLemmas.{dead_claims, dead_pages, dead_processes, dead_servers, dead_threads}
-use Rattle.call_integrity.proofs.OtherLemmas.{apart_pid}
-use Rattle.call_integrity.proofs.PartLemmas.{KeepsChange, KeepsParts, LeavesParts, left_parts, settled_parts, step_others}
+use Rattle.step_integrity.specs.Causes.{AllKeepOthers, LeavesAll, by_kill, by_step, is_of_claimant}
+use Rattle.step_integrity.specs.Fates.{Doing, MadeCall}
+use Rattle.step_integrity.specs.KeptOthers.{KeepsOthers}
+use Rattle.step_integrity.proofs.AnswerLemmas.{either_why, not_why}
+use Rattle.step_integrity.proofs.CallLemmas.{call_keeps}
+use Rattle.step_integrity.proofs.DeathLemmas.{dead_claims, dead_pages, dead_processes, dead_servers, dead_threads}
+use Rattle.step_integrity.proofs.OtherLemmas.{apart_pid}
+use Rattle.step_integrity.proofs.PartLemmas.{KeepsChange, KeepsParts, LeavesParts, left_parts, settled_parts, step_others}
 
 -- ---- deaths
 

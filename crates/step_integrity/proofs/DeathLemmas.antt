@@ -24,14 +24,14 @@ use Rattle.machine_model.specs.State.Servers.{is_server_of, messages_of}
 use Rattle.machine_laws.proofs.Messaging.ListedLemmas.{listed_at}
 use Rattle.inside_laws.proofs.Seeing.DeathLemmas.{ended, orphaned, orphans_of_death, own_held, queued_home, shut, taken, unqueued, was_there}
 use Rattle.inside_laws.proofs.Seeing.HeldLemmas.{HasLoans, has_loans, home_of_sender, some_server}
-use Rattle.call_integrity.specs.Fates.{Arises, Doing, HomeFate, LoanEnds, Loses, MadeCall, OrphanFate, OrphanStays, Own, PageStays, ServerFate, ServerStays}
-use Rattle.call_integrity.proofs.AnswerLemmas.{unserved_why}
-use Rattle.call_integrity.proofs.OrphanLemmas.{at_servers_of, not_sent}
-use Rattle.call_integrity.proofs.OtherLemmas.{apart_pid, same_pid, server_pid}
-use Rattle.call_integrity.proofs.PageLemmas.{KeepsPages, stands_there}
-use Rattle.call_integrity.proofs.PlainPartLemmas.{KeepsClaims, KeepsProcesses, forgotten_claim, put_process}
-use Rattle.call_integrity.proofs.ServerLemmas.{KeepsServers, owned}
-use Rattle.call_integrity.proofs.ThreadLemmas.{KeepsThreads}
+use Rattle.step_integrity.specs.Fates.{Arises, Doing, HomeFate, LoanEnds, Loses, MadeCall, OrphanFate, OrphanStays, Own, PageStays, ServerFate, ServerStays}
+use Rattle.step_integrity.proofs.AnswerLemmas.{unserved_why}
+use Rattle.step_integrity.proofs.OrphanLemmas.{at_servers_of, not_sent}
+use Rattle.step_integrity.proofs.OtherLemmas.{apart_pid, same_pid, server_pid}
+use Rattle.step_integrity.proofs.PageLemmas.{KeepsPages, stands_there}
+use Rattle.step_integrity.proofs.PlainPartLemmas.{KeepsClaims, KeepsProcesses, forgotten_claim, put_process}
+use Rattle.step_integrity.proofs.ServerLemmas.{KeepsServers, owned}
+use Rattle.step_integrity.proofs.ThreadLemmas.{KeepsThreads}
 
 -- The process dies in a state that is like the one before, but for the cursor, the reservation and its own threads.
 module _ (m : Machine) (h : Matched m) (pid : Pid) (cursor : ThreadId) (reserved : Option Reservation) (threads : ThreadId → Option Thread)
