@@ -64,7 +64,7 @@ module _ (doing : Doing) (servers : ℕ → Option Server) (id : ThreadId) where
       ap (λ o. option_map_or (λ (t : Thread). is_receiving serial t.state) o false) is.1
       ∙ (ap (is_receiving serial) is.2 ∙ eq-eqb serial.0 serial.0 refl)
 
-  pub arrival_why : (made : MadeCall) (message : Message) (serial : Serial) → doing.call ≡ Some made → IsBrought m made message
+  pub arrival_why : (made : MadeCall) (message : Message) (serial : Serial) → doing.call ≡ Some made → IsBrought m made serial message
       → (o : Option ThreadId) → receiver m serial ≡ o → Why (arrival_answers o message id)
   arrival_why made message serial is brought None e words f = not_why None refl words f
   arrival_why made message serial is brought (Some who) e words f = go (same_thread id who) refl f

@@ -14,7 +14,7 @@ use Rattle.xk_base.specs.declared.messages.Message.{Message}
 use Rattle.xk_base.specs.declared.messages.MsgKind.{MsgKind}
 use Rattle.xk_base.specs.declared.messages.MsgKind.TheVariants.{Scalar}
 use Rattle.xk_base.specs.Calls.CallNumbers.{forward_message}
-use Rattle.xk_base.specs.Calls.CallWords.{call_number, forward_cid, return_address, return_size, send_address}
+use Rattle.xk_base.specs.Calls.CallWords.{send_cid, call_number, forward_cid, return_address, return_size, send_address}
 use Rattle.xk_base.specs.Calls.Kinds.{is_answered}
 use Rattle.xk_base.specs.Calls.Replies.{plain_words}
 use Rattle.xk_base.specs.Tables.Counting.{least_below, put_at}
@@ -50,7 +50,7 @@ use Rattle.isolation_laws.proofs.Keeping.CallLemmas.{none_hold}
 use Rattle.inside_laws.proofs.Seeing.RowLemmas.{first_none, is_there, own_server}
 use Rattle.step_integrity.specs.Fates.{Doing, Gains, IsBrought, IsSend, MadeCall, Own, ServerStays, ServerFate}
 use Rattle.step_integrity.specs.KeptOthers.{by_call}
-use Rattle.step_integrity.proofs.BroughtLemmas.{passed_brought, sent_brought}
+use Rattle.step_integrity.proofs.BroughtLemmas.{leads, passed_brought, sent_brought}
 use Rattle.step_integrity.proofs.OtherLemmas.{server_pid}
 
 -- what becomes of all servers
@@ -100,19 +100,26 @@ module _ (m : Machine) (who : ThreadId) (w : List ℕ) where
 
   -- ---- a message is brought
 
-  gains_if : (message : Message) → IsBrought m made message → (o : Option ThreadId) (lives : Bool) (n : ℕ) (before : Option Server) → m.servers n ≡ before
+  gains_if : (message : Message) (n : ℕ) → IsBrought m made (serial_of n) message → (o : Option ThreadId) (lives : Bool) (before : Option Server)
+      → m.servers n ≡ before
       → ServerFate doing lives n (option_map (at_server (arriving o message)) before)
-  gains_if message brought o lives n None e = ServerStays (sym e)
-  gains_if message brought None lives n (Some server) e = Gains made message server refl brought e (inl refl)
-  gains_if message brought (Some id) lives n (Some server) e = Gains made message server refl brought e (inr refl)
+  gains_if message n brought o lives None e = ServerStays (sym e)
+  gains_if message n brought None lives (Some server) e = Gains made message server refl brought e (inl refl)
+  gains_if message n brought (Some id) lives (Some server) e = Gains made message server refl brought e (inr refl)
 
-  gains : (message : Message) → IsBrought m made message → (o : Option ThreadId) (serial : Serial) (lives : Bool) (n : ℕ)
+  -- .. to the server of this number
+  brought_at : (message : Message) (serial : Serial) (n : ℕ) → nat_eq n serial.0 ≡ true → IsBrought m made serial message
+      → IsBrought m made (serial_of n) message
+  brought_at message serial n e brought =
+      subst (λ k. IsBrought m made (serial_of k) message) (sym (eqb-true n serial.0 e)) brought
+
+  gains : (message : Message) (serial : Serial) → IsBrought m made serial message → (o : Option ThreadId) (lives : Bool) (n : ℕ)
       → ServerFate doing lives n (changed serial (at_server (arriving o message)) n)
-  gains message brought o serial lives n = go (nat_eq n serial.0) refl
+  gains message serial brought o lives n = go (nat_eq n serial.0) refl
     where
       go : (b : Bool) → nat_eq n serial.0 ≡ b
           → ServerFate doing lives n (if b then option_map (at_server (arriving o message)) (m.servers serial.0) else m.servers n)
-      go true e = gains_if message brought o lives n (m.servers serial.0) (ap m.servers (eqb-true n serial.0 e))
+      go true e = gains_if message n (brought_at message serial n e brought) o lives (m.servers serial.0) (ap m.servers (eqb-true n serial.0 e))
       go false e = ServerStays refl
 
   -- ---- sends
@@ -121,12 +128,12 @@ module _ (m : Machine) (who : ThreadId) (w : List ℕ) where
   waits_servers true number x = refl
   waits_servers false number x = refl
 
-  sent_servers : (first : Vpn) → IsSend (call_number w) → is_none (named_kind w) ≡ false
+  sent_servers : (first : Vpn) → IsSend (call_number w) → is_none (named_kind w) ≡ false → is_none (server_at here (send_cid w)) ≡ false
       → OfPlan Keeps (sent_row first here w)
-  sent_servers first is some n =
+  sent_servers first is some alive n =
       subst (λ (s : ℕ → Option Server). ServerFate doing lives n (put_at nat_eq s serial.0 (option_map (at_server (arriving (receiver here serial) message)) (s serial.0)) n))
       (sym (waits_servers (is_answered kind) (new_number here) with_pages))
-      (gains message (sent_brought m who w first is some) (receiver here serial) serial lives n)
+      (gains message serial (sent_brought m who w first is some alive) (receiver here serial) lives n)
     where
       kind : MsgKind
       kind = unwrap_or (named_kind w) Scalar
@@ -149,7 +156,8 @@ module _ (m : Machine) (who : ThreadId) (w : List ℕ) where
   sent_to_servers : IsSend (call_number w) → first_refusal (send_refusals here w) ≡ None
       → OfPlan Keeps (sent_to_row here w)
   sent_to_servers is none found =
-      sent_servers (unwrap_or (arrival here w) (record { 0 = 0 })) is (none_hold (send_refusals here w) none).1.0
+      let passed = none_hold (send_refusals here w) none in
+      sent_servers (unwrap_or (arrival here w) (record { 0 = 0 })) is passed.1.0 passed.0
 
   -- ---- messages that a server of the process holds
 
@@ -187,11 +195,11 @@ module _ (m : Machine) (who : ThreadId) (w : List ℕ) where
 
   passed_servers : (first : Vpn) → call_number w ≡ forward_message
       → are_one_server (passed_from here (passed_number w)) (passed_to here (forward_cid w)) ≡ false
-      → is_none (passed_to here (forward_cid w)) ≡ false
+      → is_none (server_at here (forward_cid w)) ≡ false
       → (o : Option Message) → passable here (passed_number w) ≡ o
       → OfPlan Keeps (passed_if here (passed_number w) (forward_cid w) first o)
-  passed_servers first is apart leads None e = λ n. ServerStays refl
-  passed_servers first is apart leads (Some message) e = λ n. go n (nat_eq n to.0) refl
+  passed_servers first is apart alive None e = λ n. ServerStays refl
+  passed_servers first is apart alive (Some message) e = λ n. go n (nat_eq n to.0) refl
     where
       at : HasHolder (is_passable_of (passed_number w))
       at = has_holder (is_passable_of (passed_number w)) message e
@@ -216,7 +224,7 @@ module _ (m : Machine) (who : ThreadId) (w : List ℕ) where
       not_from : nat_eq to.0 from.0 ≡ false
       not_from =
           ap (λ o. nat_eq to.0 (unwrap_or o (serial_of 0)).0) at.is
-          ∙ two (passed_to here (forward_cid w)) leads (ap (λ o. are_one_server o (passed_to here (forward_cid w))) (sym at.is) ∙ apart)
+          ∙ two (passed_to here (forward_cid w)) (ap is_none (leads m who w (forward_cid w) alive)) (ap (λ o. are_one_server o (passed_to here (forward_cid w))) (sym at.is) ∙ apart)
 
       next : Message
       next = with_first first message
@@ -229,7 +237,8 @@ module _ (m : Machine) (who : ThreadId) (w : List ℕ) where
       go n true f =
           subst (λ o. ServerFate doing (is_living m who.pid) n (option_map (at_server (arriving (receiver here to) next)) o))
           (sym (ap (λ b. if b then option_map (at_server (Returned message.number)) (m.servers from.0) else m.servers to.0) not_from))
-          (gains_if next (passed_brought m who w first is message e) (receiver here to) (is_living m who.pid) n (m.servers to.0) (ap m.servers (eqb-true n to.0 f)))
+          (gains_if next n (brought_at next to n f (passed_brought m who w first is alive message e)) (receiver here to) (is_living m who.pid) (m.servers to.0)
+          (ap m.servers (eqb-true n to.0 f)))
       go n false f = own_change from (at_server (Returned message.number)) (λ s. refl) own (is_living m who.pid) n
 
   -- ---- receives
@@ -306,16 +315,9 @@ module _ (m : Machine) (who : ThreadId) (w : List ℕ) where
           also (λ e none found.
           passed_servers (unwrap_or (next_arrival here (passed_number w) (forward_cid w)) (record { 0 = 0 })) e
           (none_hold (forward_refusals here (passed_number w) (forward_cid w)) none).1.1.0
-          (leads (none_hold (forward_refusals here (passed_number w) (forward_cid w)) none).1.0)
+          (none_hold (forward_refusals here (passed_number w) (forward_cid w)) none).1.0
           (passable here (passed_number w)) refl)
           also tt
-        where
-          leads : is_none (server_at here (forward_cid w)) ≡ false → is_none (passed_to here (forward_cid w)) ≡ false
-          leads some = go (passed_to here (forward_cid w)) some
-            where
-              go : (o : Option Serial) → is_none (option_and_then (λ serial. m.servers serial.0) o) ≡ false → is_none o ≡ false
-              go None f = absurd (false≢true (sym f))
-              go (Some serial) f = refl
 
       pub call_servers : OfServed (λ change. KeepsServers doing change.machine) (call here w)
       call_servers =

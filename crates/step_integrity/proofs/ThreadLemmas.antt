@@ -12,7 +12,7 @@ use Rattle.xk_base.specs.declared.messages.Message.{Message}
 use Rattle.xk_base.specs.declared.messages.MsgKind.{MsgKind}
 use Rattle.xk_base.specs.declared.messages.MsgKind.TheVariants.{Scalar}
 use Rattle.xk_base.specs.Calls.CallNumbers.{forward_message, return_memory, return_scalar1, return_scalar2}
-use Rattle.xk_base.specs.Calls.CallWords.{call_number, forward_cid, return_offset, return_valid, return_value1, return_value2}
+use Rattle.xk_base.specs.Calls.CallWords.{send_cid, call_number, forward_cid, return_offset, return_valid, return_value1, return_value2}
 use Rattle.xk_base.specs.Calls.Kinds.{is_answered}
 use Rattle.xk_base.specs.Calls.Replies.{plain_words, refused_words, returned_words, scalar1_words, scalar2_words}
 use Rattle.xk_base.specs.Tables.Circle.{same_thread}
@@ -21,7 +21,7 @@ use Rattle.ledger_model.proofs.LedgerLemmas.{same_number-true}
 use Rattle.machine_model.specs.Calling.Calls.{call}
 use Rattle.machine_model.specs.Calling.ServerCalls.{named_server, named_sid, own_server_refusals}
 use Rattle.machine_model.specs.Ending.Closing.{any_server, closed, is_sender_at, refused_server}
-use Rattle.machine_model.specs.Messaging.ForwardCalls.{next_arrival, passable, passed_number, passed_to, with_first}
+use Rattle.machine_model.specs.Messaging.ForwardCalls.{forward_refusals, next_arrival, passable, passed_number, passed_to, with_first}
 use Rattle.machine_model.specs.Messaging.Messages.{is_blocking_of, is_blocking_scalar, is_lend, is_lend_of, is_of_number, new_message, new_number}
 use Rattle.machine_model.specs.Messaging.ReceiveCalls.{oldest_queued}
 use Rattle.machine_model.specs.Messaging.Receivers.{is_receiving, receiver, receiving_at}
@@ -31,7 +31,7 @@ use Rattle.machine_model.specs.Runs.Matched.{IsServerAwaited, Matched}
 use Rattle.machine_model.specs.State.Changes.{Change, first_refusal}
 use Rattle.machine_model.specs.State.Machine.{Idle, Joining, Machine, Ready, Receiving, Server, Thread, ThreadState, Waiting}
 use Rattle.machine_model.specs.State.Order.{turn}
-use Rattle.machine_model.specs.State.Servers.{is_own, is_server_of, with_sid}
+use Rattle.machine_model.specs.State.Servers.{server_at, is_own, is_server_of, with_sid}
 use Rattle.machine_model.specs.State.Threads.{answer_to, thread_id, with_state}
 use Rattle.machine_laws.proofs.Calling.RunRefusalLemmas.{not_false}
 use Rattle.machine_laws.proofs.Threading.ThreadStepLemmas.{turned_to}
@@ -109,14 +109,14 @@ module _ (m : Machine) (who : ThreadId) (w : List ℕ) where
   at_once true id other = refl
   at_once false id other = not_caller plain_words id other
 
-  sent_keeps : (first : Vpn) → IsSend (call_number w) → is_none (named_kind w) ≡ false
+  sent_keeps : (first : Vpn) → IsSend (call_number w) → is_none (named_kind w) ≡ false → is_none (server_at here (send_cid w)) ≡ false
       → OfPlan Keeps (sent_row first here w)
   unfolding receiver
-  sent_keeps first is some = record {
+  sent_keeps first is some alive = record {
     same = λ id other. waits_same (is_answered kind) (new_number here) _ id (other_thread id who other);
     why = λ id other.
         either_why doing _ id (arrival_answers (receiver here serial) message id) (sender_answered (is_answered kind) who id)
-        (arrival_why doing _ id made message serial refl (sent_brought m who w first is some) (receiver here serial) refl)
+        (arrival_why doing _ id made message serial refl (sent_brought m who w first is some alive) (receiver here serial) refl)
         (not_why doing _ id (sender_answered (is_answered kind) who id) (at_once (is_answered kind) id other));
   }
     where
@@ -132,17 +132,18 @@ module _ (m : Machine) (who : ThreadId) (w : List ℕ) where
   sent_to_keeps : IsSend (call_number w) → first_refusal (send_refusals here w) ≡ None
       → OfPlan Keeps (sent_to_row here w)
   sent_to_keeps is none found =
-      sent_keeps (unwrap_or (arrival here w) (record { 0 = 0 })) is (none_hold (send_refusals here w) none).1.0
+      let passed = none_hold (send_refusals here w) none in
+      sent_keeps (unwrap_or (arrival here w) (record { 0 = 0 })) is passed.1.0 passed.0
 
-  passed_keeps : (first : Vpn) → call_number w ≡ forward_message → (o : Option Message) → passable here (passed_number w) ≡ o
+  passed_keeps : (first : Vpn) → call_number w ≡ forward_message → is_none (server_at here (forward_cid w)) ≡ false → (o : Option Message) → passable here (passed_number w) ≡ o
       → OfPlan Keeps (passed_if here (passed_number w) (forward_cid w) first o)
   unfolding receiver
-  passed_keeps first is None e = quiet (answers_nobody []) (λ id other. (refl, refl))
-  passed_keeps first is (Some message) e = record {
+  passed_keeps first is alive None e = quiet (answers_nobody []) (λ id other. (refl, refl))
+  passed_keeps first is alive (Some message) e = record {
     same = λ id other. refl;
     why = λ id other.
         either_why doing _ id (arrival_answers (receiver here to) (with_first first message) id) (answer_to who plain_words id)
-        (arrival_why doing _ id made (with_first first message) to refl (passed_brought m who w first is message e) (receiver here to) refl)
+        (arrival_why doing _ id made (with_first first message) to refl (passed_brought m who w first is alive message e) (receiver here to) refl)
         (not_why doing _ id (answer_to who plain_words id) (not_caller plain_words id other));
   }
     where
@@ -302,7 +303,8 @@ module _ (m : Machine) (who : ThreadId) (w : List ℕ) where
           also (λ e. destroy_threads)
           also (λ e. quiet (thread_id_row here w) (λ id other. (rw (other_thread id who other) refl, refl)))
           also (λ e. quiet (process_id_row here w) (λ id other. (rw (other_thread id who other) refl, refl)))
-          also (λ e none found. passed_keeps (unwrap_or (next_arrival here (passed_number w) (forward_cid w)) (record { 0 = 0 })) e (passable here (passed_number w)) refl)
+          also (λ e none found. passed_keeps (unwrap_or (next_arrival here (passed_number w) (forward_cid w)) (record { 0 = 0 })) e
+          (none_hold (forward_refusals here (passed_number w) (forward_cid w)) none).1.0 (passable here (passed_number w)) refl)
           also tt
 
       pub call_threads : OfServed (KeepsThreads doing) (call here w)

@@ -10,8 +10,10 @@ use Rattle.xk_base.specs.declared.ids.Vpn.{Vpn}
 use Rattle.xk_base.specs.declared.messages.Message.{Message}
 use Rattle.xk_base.specs.declared.messages.MsgKind.{MsgKind}
 use Rattle.xk_base.specs.Calls.CallNumbers.{forward_message, return_memory, return_scalar1, return_scalar2, send_message, try_send_message}
-use Rattle.xk_base.specs.Calls.CallWords.{call_number, return_offset, return_valid, return_value1, return_value2}
+use Rattle.xk_base.specs.Calls.CallWords.{call_number, forward_cid, return_offset, return_valid, return_value1, return_value2, send_cid}
 use Rattle.xk_base.specs.Calls.Replies.{message_words, refused_words, returned_words, scalar1_words, scalar2_words}
+use Rattle.xk_base.specs.Tables.Connections.{connected_to}
+use Rattle.xk_base.specs.Tables.Sids.{serial_of}
 use Rattle.ledger_model.specs.Ledger.{Ledger, Orphan, Page, PageLoan}
 use Rattle.machine_model.specs.Ending.Closing.{with_senderless_from, without_queued_from}
 use Rattle.machine_model.specs.Messaging.ForwardCalls.{passed_number, with_first}
@@ -51,14 +53,20 @@ pub record IsAtServerOf (pid : Pid) (m : Machine) (list : Server → List Messag
 abbrev pub IsSend : ℕ → Type 0
 IsSend number = (number ≡ send_message) ⊎ (number ≡ try_send_message)
 
--- the message is the one that a call brings to a server
-pub data IsBrought (m : Machine) (made : MadeCall) (message : Message) : Type 0 where
+-- the connection of the caller's process leads to the server of that serial
+abbrev pub ConnectsTo : Machine → MadeCall → ℕ → Serial → Type 0
+ConnectsTo m made cid serial = connected_to (m.process made.who.pid.0).connections cid ≡ Some serial
+
+-- the message is the one that a call brings to the server of a serial
+pub data IsBrought (m : Machine) (made : MadeCall) (serial : Serial) (message : Message) : Type 0 where
   -- it is sent: it is new, the caller's, and has the words of the call
   Sent : (kind : MsgKind) (first : Vpn) → IsSend (call_number made.words) → named_kind made.words ≡ Some kind
-      → message ≡ new_message (record m { cursor = made.who }) kind made.words first → IsBrought m made message
+      → ConnectsTo m made (send_cid made.words) serial → message ≡ new_message (record m { cursor = made.who }) kind made.words first
+      → IsBrought m made serial message
   -- it is passed on: a server of the caller's process held it, and only its first page is new
   Passed : (old : Message) (first : Vpn) → call_number made.words ≡ forward_message → old.number ≡ passed_number made.words
-      → IsAtServerOf made.who.pid m (λ server. server.held) old → message ≡ with_first first old → IsBrought m made message
+      → IsAtServerOf made.who.pid m (λ server. server.held) old → ConnectsTo m made (forward_cid made.words) serial
+      → message ≡ with_first first old → IsBrought m made serial message
 
 -- what a call that returns a message tells its sender, and none of any other call
 abbrev pub returned_by : List ℕ → Option (List ℕ)
@@ -71,8 +79,8 @@ returned_by w =
 
 -- why a thread is answered, and what; `servers` are those afterwards
 pub data IsAnswered (doing : Doing) (servers : ℕ → Option Server) (id : ThreadId) (words : List ℕ) : Type 0 where
-  -- it is Receiving at a server, and gets the message that the call brings
-  Receives : (made : MadeCall) (message : Message) (serial : Serial) → doing.call ≡ Some made → IsBrought doing.before made message
+  -- it is Receiving at a server, and gets the message that the call brings there
+  Receives : (made : MadeCall) (message : Message) (serial : Serial) → doing.call ≡ Some made → IsBrought doing.before made serial message
       → receiving_at doing.before serial id ≡ true → words ≡ message_words message → IsAnswered doing servers id words
   -- it waits for the answer to a message that a server of the process holds and whose number the call names, and gets what the call says
   Returned : (made : MadeCall) (message : Message) → doing.call ≡ Some made → message.number ≡ named_number made.words
@@ -97,7 +105,7 @@ pub data ServerFate (doing : Doing) (lives : Bool) (n : ℕ) (later : Option Ser
       → ServerFate doing lives n later
   ServerStays : later ≡ doing.before.servers n → ServerFate doing lives n later
   -- it gets the message that the call brings: queued, or received at once
-  Gains : (made : MadeCall) (message : Message) (server : Server) → doing.call ≡ Some made → IsBrought doing.before made message
+  Gains : (made : MadeCall) (message : Message) (server : Server) → doing.call ≡ Some made → IsBrought doing.before made (serial_of n) message
       → doing.before.servers n ≡ Some server
       → (later ≡ Some (with_queued message server)) ⊎ (later ≡ Some (with_received message server)) → ServerFate doing lives n later
   -- the process is dead: what its threads sent is queued no more, or is held without a sender
