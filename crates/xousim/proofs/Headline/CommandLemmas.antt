@@ -106,12 +106,15 @@ saved_three suspend call booted (StepLimit limit) so known is cause ran read =
 saved_three suspend call booted SwapFault so known is cause unwritten read = inr (inl (cause.0, inl unwritten))
 saved_three suspend call booted WriteFault so known is cause ran read =
     let h = run_of suspend.limit booted.machine ran.events in
-    inr (inl (cause, record {
-      status = status_of suspend.limit h.ending;
-      text = saved_of h;
-      says = said_over (Suspends suspend) call (silent suspend) booted ran.events (status_of suspend.limit h.ending) (saved_of h) so ran.is_file refl refl;
-      written = ran.exact (known_over (Suspends suspend) call (silent suspend) booted ran.events so known ran.is_file);
-    }))
+    inr (inl (
+      cause,
+      record {
+        status = status_of suspend.limit h.ending;
+        text = saved_of h;
+        says = said_over (Suspends suspend) call (silent suspend) booted ran.events (status_of suspend.limit h.ending) (saved_of h) so ran.is_file refl refl;
+        written = ran.exact (known_over (Suspends suspend) call (silent suspend) booted ran.events so known ran.is_file);
+      },
+    ))
 saved_three suspend call booted ReadFault so known is cause ran read = inr (inl (cause, inl ran.1))
 saved_three suspend call booted Usage so known is cause ran read = absurd ran
 saved_three suspend call booted NoMemory so known is cause ran read = absurd ran

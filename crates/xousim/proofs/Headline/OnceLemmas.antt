@@ -56,7 +56,7 @@ said_alike file command one other text words starts a b =
     let events : a.run.events ≡ b.run.events = same_bytes file (event_name command) a.run.events b.run.events a.given.events b.given.events in
     let same : history_in a.run ≡ history_in b.run = histories_same a.run b.run alike events in (
       a.ended ∙ (ap (λ (limit : ℕ). status_of limit (history_in a.run).ending) alike.limit
-      ∙ (ap (λ (h : History). status_of b.run.limit h.ending) same ∙ sym b.ended)),
+          ∙ (ap (λ (h : History). status_of b.run.limit h.ending) same ∙ sym b.ended)),
       a.told ∙ (ap (text_of command) same ∙ sym b.told),
     )
 

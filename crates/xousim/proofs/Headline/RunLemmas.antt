@@ -164,22 +164,28 @@ told_three command call play booted SwapFault so tell known is cause ran read =
     inr (inl (cause.0, inr (front_told command call play booted so tell ran (trusted_over command call play booted so known cause.1))))
 told_three command call play booted WriteFault so tell known is cause ran read =
     let h = run_of play.limit booted.machine ran.events in
-    inr (inl (cause, record {
-      status = status_of play.limit h.ending;
-      text = output play.tells h;
-      says = said_over command call play booted ran.events (status_of play.limit h.ending) (output play.tells h) so ran.is_file refl (sym (tell.text h));
-      written = ran.exact (known_over command call play booted ran.events so known ran.is_file);
-    }))
+    inr (inl (
+      cause,
+      record {
+        status = status_of play.limit h.ending;
+        text = output play.tells h;
+        says = said_over command call play booted ran.events (status_of play.limit h.ending) (output play.tells h) so ran.is_file refl (sym (tell.text h));
+        written = ran.exact (known_over command call play booted ran.events so known ran.is_file);
+      },
+    ))
 told_three command call play booted ReadFault so tell known is cause ran read =
     let wrote = ran.exact (known_lines command call play booted ran.bytes so known ran.read) in
     let h = run_of play.limit booted.machine (whole_lines ran.bytes) in
     let P : Telling → Type 0 = λ tells. Grows call.out.written call.out.written_after (told tells h.records) in
-    inr (inl (cause, inr (record {
-      run = run_over booted play.limit (whole_lines ran.bytes);
-      read = lines_over command call play booted ran.bytes so ran.read;
-      played = wrote.ended;
-      written = subst P (sym tell.tells) wrote.written;
-    })))
+    inr (inl (
+      cause,
+      inr (record {
+        run = run_over booted play.limit (whole_lines ran.bytes);
+        read = lines_over command call play booted ran.bytes so ran.read;
+        played = wrote.ended;
+        written = subst P (sym tell.tells) wrote.written;
+      }),
+    ))
 told_three command call play booted Usage so tell known is cause ran read = absurd ran
 told_three command call play booted NoMemory so tell known is cause ran read = absurd ran
 told_three command call play booted (ImageFault fault) so tell known is cause ran read = absurd ran
