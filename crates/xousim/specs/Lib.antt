@@ -7,5 +7,4 @@ pub mod Splits
 pub mod StateFiles
 pub mod Status
 pub mod Summary
-pub mod SuspendedCalls
 pub mod Words
