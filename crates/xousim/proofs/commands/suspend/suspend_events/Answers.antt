@@ -1,4 +1,4 @@
-use Rattle.std.proofs.Common.{refl, subst, sym, ap, inr, ℕ, List, Option, Ok, Err}
+use Rattle.std.proofs.Common.{refl, subst, sym, ap, inr, ℕ, true, List, Option, Ok, Err}
 use Rattle.machine_model.specs.State.Machine.{Machine}
 use Rattle.vm_memory.specs.Memory.{store_of}
 use Rattle.xk_kernel.specs.State.{machine_of}
