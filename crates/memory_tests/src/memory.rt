@@ -12,19 +12,12 @@ use boot_plan::{BootPlan, PagePlan, ProcPlan};
 use std::alloc::Global;
 use vm_memory::{BootError, BootFault, Memory};
 use xk_base::{NoMemory, Number, Pid, Place, Right, Row, Vpn};
-use xk_ports::{SureStore, SwapStore};
+use xk_ports::SwapStore;
 
 mod exchange;
 mod first_pages;
-mod first_run;
-mod known;
-mod loans;
-mod user;
-mod windows;
 
 const PID: Pid = Pid(2);
-
-const READ: Right = Right { w: false, x: false };
 
 const WRITE: Right = Right { w: true, x: false };
 
@@ -92,9 +85,4 @@ fn booted<W: SwapStore>(alloc: Global, store: W) -> Result<Memory<W>, BootFault<
     file[55] = 0x00;
     file[87] = 0xEF;
     Memory::boot(alloc, &plan, &file, store)
-}
-
-// Lets all go but the store.
-fn end<W: SwapStore>(memory: Memory<W>) -> W {
-    memory.close()
 }
