@@ -1,0 +1,6 @@
+pub mod EventLemmas
+pub mod NodeLemmas
+pub mod PathLemmas
+pub mod PlayLemmas
+pub mod SearchLemmas
+pub mod SeenLemmas

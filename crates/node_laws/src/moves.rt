@@ -1,0 +1,21 @@
+//! What may come next in an order.
+
+use xk_base::ThreadId;
+
+/// A move of an order.
+#[derive(Clone, Copy, Debug, PartialEq, Eq)]
+pub enum Move {
+    /// A slice of this thread, which has so many steps.
+    Slice(ThreadId, u32),
+    /// The event of this number comes, of those that may come once.
+    Once(u32),
+}
+
+/// What a search notes of a node whose moves it followed.
+#[derive(Clone, Copy, Debug, PartialEq, Eq)]
+pub enum Note {
+    /// Orders go on there.
+    Inner,
+    /// Orders end there.
+    Ending,
+}
