@@ -26,7 +26,7 @@ use Rattle.step_integrity.specs.KeptOthers.{CallKeepsOthers, KeepsOthers, by_cal
 use Rattle.step_integrity.proofs.DeathLemmas.{dead_pages, dead_servers, dead_threads}
 use Rattle.step_integrity.proofs.LedgerLemmas.{call_pages}
 use Rattle.step_integrity.proofs.PageLemmas.{KeepsPages}
-use Rattle.step_integrity.proofs.PlainPartLemmas.{KeepsClaims, KeepsProcesses, call_claims, call_processes}
+use Rattle.step_integrity.proofs.PlainPartLemmas.{KeepsClaims, KeepsPending, KeepsProcesses, call_claims, call_pending, call_processes}
 use Rattle.step_integrity.proofs.ServerLemmas.{KeepsServers, call_servers}
 use Rattle.step_integrity.proofs.ThreadLemmas.{KeepsThreads, call_threads}
 use Rattle.step_integrity.proofs.PartLemmas.{KeepsChange, KeepsParts, left_parts, settled_parts, step_others}
@@ -46,13 +46,13 @@ module _ (m : Machine) (h : Matched m) (who : ThreadId) (w : List ℕ) where
   unfolding call_settled
   refused_parts error =
       left_parts doing (call_settled here (Refused error)).machine
-      (record { threads = other_put (with_refusal error); process = refl; claims = refl; servers = refl; ledger = refl })
+      (record { threads = other_put (with_refusal error); process = refl; claims = refl; pending = λ k claim there other. refl; servers = refl; ledger = refl })
 
   retried_parts : KeepsParts doing (call_settled here Retried).machine
   unfolding call_settled turn
   retried_parts =
       left_parts doing (call_settled here Retried).machine
-      (record { threads = λ id other. refl; process = refl; claims = refl; servers = refl; ledger = refl })
+      (record { threads = λ id other. refl; process = refl; claims = refl; pending = λ k claim there other. refl; servers = refl; ledger = refl })
 
   served_parts : (change : Change) → KeepsChange doing change → KeepsParts doing (call_settled here (Served change)).machine
   unfolding call_settled
@@ -71,6 +71,7 @@ module _ (m : Machine) (h : Matched m) (who : ThreadId) (w : List ℕ) where
         };
         process = keeps.process;
         claims = keeps.claims;
+        pending = keeps.pending;
         servers = keeps.servers;
         pages = keeps.pages;
       })
@@ -89,16 +90,17 @@ module _ (m : Machine) (h : Matched m) (who : ThreadId) (w : List ℕ) where
 
   pub called_parts : KeepsParts doing (call_settled here (call here w)).machine
   called_parts =
-      go (call here w) (call_threads m who w h terminates_threads) (call_processes m who w) (call_claims m who w)
+      go (call here w) (call_threads m who w h terminates_threads) (call_processes m who w) (call_claims m who w) (call_pending m who w)
       (call_servers m who w h terminates_servers) (call_pages m who w h terminates_pages)
     where
       go : (outcome : Outcome) → OfServed (KeepsThreads doing) outcome → OfServed (λ change. KeepsProcesses m who.pid change.machine) outcome
-          → OfServed (λ change. KeepsClaims m who.pid change.machine) outcome → OfServed (λ change. KeepsServers doing change.machine) outcome
+          → OfServed (λ change. KeepsClaims m who.pid change.machine) outcome → OfServed (λ change. KeepsPending m who.pid change.machine) outcome
+          → OfServed (λ change. KeepsServers doing change.machine) outcome
           → OfServed (λ change. KeepsPages who.pid m.ledger change.machine.ledger) outcome → KeepsParts doing (call_settled here outcome).machine
-      go (Refused error) a b c d e = refused_parts error
-      go Retried a b c d e = retried_parts
-      go (Served change) a b c d e =
-          served_parts change (record { threads = a; process = b; claims = c; servers = d; pages = e })
+      go (Refused error) a b c d e f = refused_parts error
+      go Retried a b c d e f = retried_parts
+      go (Served change) a b c d e f =
+          served_parts change (record { threads = a; process = b; claims = c; pending = d; servers = e; pages = f })
 
 -- the step that makes the call
 pub call_keeps : CallKeepsOthers

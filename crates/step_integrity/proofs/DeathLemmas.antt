@@ -29,7 +29,7 @@ use Rattle.step_integrity.proofs.AnswerLemmas.{unserved_why}
 use Rattle.step_integrity.proofs.OrphanLemmas.{at_servers_of, not_sent}
 use Rattle.step_integrity.proofs.OtherLemmas.{apart_pid, same_pid, server_pid}
 use Rattle.step_integrity.proofs.PageLemmas.{KeepsPages, stands_there}
-use Rattle.step_integrity.proofs.PlainPartLemmas.{KeepsClaims, KeepsProcesses, forgotten_claim, put_process}
+use Rattle.step_integrity.proofs.PlainPartLemmas.{KeepsClaims, KeepsPending, KeepsProcesses, forgotten_claim, forgotten_pending, put_process}
 use Rattle.step_integrity.proofs.ServerLemmas.{KeepsServers, owned}
 use Rattle.step_integrity.proofs.ThreadLemmas.{KeepsThreads}
 
@@ -57,6 +57,10 @@ module _ (m : Machine) (h : Matched m) (pid : Pid) (cursor : ThreadId) (reserved
   pub dead_claims : KeepsClaims m pid left
   unfolding death servers_closed closed senders_queued_gone senders_held_gone forgotten
   dead_claims = forgotten_claim m pid
+
+  pub dead_pending : KeepsPending m pid left
+  unfolding death servers_closed closed senders_queued_gone senders_held_gone forgotten
+  dead_pending = forgotten_pending m pid
 
   not_living : is_living left pid ≡ false
   unfolding death servers_closed closed senders_queued_gone senders_held_gone forgotten

@@ -12,3 +12,4 @@ pub mod PlainPartLemmas
 pub mod ServerLemmas
 pub mod StepLemmas
 pub mod ThreadLemmas
+pub mod TimerLemmas

@@ -13,6 +13,7 @@ use Rattle.machine_model.specs.State.Changes.{Change, Told, settled}
 use Rattle.machine_model.specs.State.Machine.{Claim, Machine, Thread}
 use Rattle.machine_model.specs.State.Order.{actor}
 use Rattle.machine_model.specs.State.Threads.{thread_id}
+use Rattle.machine_model.specs.Stepping.Interrupts.{is_claim_of}
 use Rattle.machine_model.specs.Stepping.Step.{acted, counted, step}
 use Rattle.machine_model.specs.Stepping.Timer.{timed}
 use Rattle.machine_model.proofs.Runs.TimerLemmas.{timed_raised}
@@ -20,13 +21,14 @@ use Rattle.machine_laws.proofs.Threading.ThreadStepLemmas.{step_of_thread, turne
 use Rattle.integrity_laws.specs.Integrity.{is_of_timer}
 use Rattle.integrity_laws.proofs.InstructionLemmas.{other_thread, timed_other}
 use Rattle.step_integrity.specs.Fates.{Doing, OrphanStays, PageStays, ServerStays, ThreadFate, ThreadStays}
-use Rattle.step_integrity.specs.KeptOthers.{KeepsOthers}
+use Rattle.step_integrity.specs.KeptOthers.{KeepsOthers, claims_timer}
 use Rattle.step_integrity.proofs.AnswerLemmas.{answered_fate}
 use Rattle.step_integrity.proofs.OtherLemmas.{same_pid}
 use Rattle.step_integrity.proofs.PageLemmas.{KeepsPages}
-use Rattle.step_integrity.proofs.PlainPartLemmas.{KeepsClaims, KeepsProcesses}
+use Rattle.step_integrity.proofs.PlainPartLemmas.{KeepsClaims, KeepsPending, KeepsProcesses}
 use Rattle.step_integrity.proofs.ServerLemmas.{KeepsServers}
 use Rattle.step_integrity.proofs.ThreadLemmas.{KeepsThreads}
+use Rattle.step_integrity.proofs.TimerLemmas.{timed_pending}
 
 -- ---- all parts of a change, before the timer
 
@@ -35,6 +37,7 @@ pub record KeepsParts (doing : Doing) (after : Machine) : Type 0 where
   pub threads : (id : ThreadId) → id.pid ≢ doing.pid → ThreadFate doing after.servers id (after.threads id)
   pub process : KeepsProcesses doing.before doing.pid after
   pub claims : KeepsClaims doing.before doing.pid after
+  pub pending : KeepsPending doing.before doing.pid after
   pub servers : KeepsServers doing after
   pub pages : KeepsPages doing.pid doing.before.ledger after.ledger
 
@@ -43,6 +46,7 @@ pub record KeepsChange (doing : Doing) (change : Change) : Type 0 where
   pub threads : KeepsThreads doing change
   pub process : KeepsProcesses doing.before doing.pid change.machine
   pub claims : KeepsClaims doing.before doing.pid change.machine
+  pub pending : KeepsPending doing.before doing.pid change.machine
   pub servers : KeepsServers doing change.machine
   pub pages : KeepsPages doing.pid doing.before.ledger change.machine.ledger
 
@@ -54,6 +58,7 @@ settled_parts doing change keeps = record {
       (keeps.threads.why id other);
   process = keeps.process;
   claims = keeps.claims;
+  pending = keeps.pending;
   servers = keeps.servers;
   pages = keeps.pages;
 }
@@ -65,6 +70,7 @@ counted_parts doing m t told keeps = record {
   threads = keeps.threads;
   process = keeps.process;
   claims = keeps.claims;
+  pending = keeps.pending;
   servers = keeps.servers;
   pages = keeps.pages;
 }
@@ -75,6 +81,7 @@ pub record LeavesParts (doing : Doing) (after : Machine) : Type 0 where
   pub threads : (id : ThreadId) → id.pid ≢ doing.pid → after.threads id ≡ doing.before.threads id
   pub process : after.process ≡ doing.before.process
   pub claims : after.claims ≡ doing.before.claims
+  pub pending : KeepsPending doing.before doing.pid after
   pub servers : after.servers ≡ doing.before.servers
   pub ledger : after.ledger ≡ doing.before.ledger
 
@@ -83,6 +90,7 @@ left_parts doing after leaves = record {
   threads = λ id other. ThreadStays (leaves.threads id other);
   process = λ other apart. ap (λ all. all other.0) leaves.process;
   claims = λ k claim other. (λ f. ap (λ all. all k) (sym leaves.claims) ∙ f, λ f. ap (λ all. all k) leaves.claims ∙ f);
+  pending = leaves.pending;
   servers = λ n. ServerStays (ap (λ all. all n) leaves.servers);
   pages = record {
     homes = λ p other. PageStays (ap (λ (l : Ledger). l.home p) leaves.ledger);
@@ -110,6 +118,21 @@ module _ (doing : Doing) (told : Told) (keeps : KeepsParts doing told.machine) w
       go None e = refl
       go (Some claim) e = of_claim claim e (claim.pid.0 == doing.pid.0) refl
 
+  -- nor is the timer another's that wasn't so before
+  still_without : (claim : Claim) → claim.pid ≢ doing.pid → claims_timer doing.before claim.pid ≡ false
+      → claims_timer told.machine claim.pid ≡ false
+  still_without claim other untimed = go (told.machine.claims TIMER_INTERRUPT) refl
+    where
+      of_claim : (c : Claim) → told.machine.claims TIMER_INTERRUPT ≡ Some c → (b : Bool) → (c.pid.0 == claim.pid.0) ≡ b → b ≡ false
+      of_claim c e false q = refl
+      of_claim c e true q =
+          let before = (keeps.claims TIMER_INTERRUPT c (λ same. other (sym (same_pid c.pid claim.pid (eqb-true c.pid.0 claim.pid.0 q)) ∙ same))).0 e in
+          sym q ∙ (sym (ap (is_claim_of claim.pid) before) ∙ untimed)
+
+      go : (o : Option Claim) → told.machine.claims TIMER_INTERRUPT ≡ o → is_claim_of claim.pid o ≡ false
+      go None e = refl
+      go (Some c) e = of_claim c e (c.pid.0 == claim.pid.0) refl
+
   pub timed_others : KeepsOthers doing (timed told).machine
   timed_others =
       let raised = timed_raised told in
@@ -121,6 +144,10 @@ module _ (doing : Doing) (told : Told) (keeps : KeepsParts doing told.machine) w
             (keeps.threads id other);
         process = keeps.process;
         claims = keeps.claims;
+        pending = λ k claim there other untimed.
+            sym (ap (λ (x : Machine). x.pending k) raised.is)
+            ∙ (timed_pending told k claim ((keeps.claims k claim other).1 there) (still_without claim other untimed)
+            ∙ keeps.pending k claim there other);
         servers = keeps.servers;
         homes = keeps.pages.homes;
         orphans = keeps.pages.orphans;

@@ -1,6 +1,6 @@
 -- A call leaves the processes and the claims of others.
 use Rattle.std.proofs.Common.{◌≡◌, ◌≢◌, ℕ, ◌+◌, Bool, true, false, List, Option, Some, None, refl, sym, ap, ◌∙◌}
-use Rattle.std.specs.Prelude.{◌↔◌, ◌-◌, is_some, nat_eq, if◌then◌else◌}
+use Rattle.std.specs.Prelude.{◌&&◌, not, ◌↔◌, ◌-◌, is_some, nat_eq, if◌then◌else◌}
 use Rattle.std.proofs.lemmas.Bool.{eqb-true, false≢true}
 use Rattle.std.proofs.lemmas.Option.{none-some, same_Some}
 use Rattle.xk_base.specs.declared.ids.Pid.{Pid}
@@ -20,7 +20,7 @@ use Rattle.machine_model.specs.State.Machine.{Claim, Machine, Process}
 use Rattle.machine_model.specs.Stepping.Interrupts.{is_claim_of}
 use Rattle.machine_laws.proofs.Calling.RunRefusalLemmas.{not_false}
 use Rattle.machine_laws.proofs.Threading.ThreadStepLemmas.{turned_to}
-use Rattle.call_effects.specs.Footprints.{ClaimsPart, ProcessesPart, names}
+use Rattle.call_effects.specs.Footprints.{ClaimsPart, PendingPart, ProcessesPart, names}
 use Rattle.call_effects.proofs.PartLemmas.{OfChanging, of_parts}
 use Rattle.call_effects.proofs.RowLemmas.{◌also◌}
 use Rattle.call_effects.proofs.ServedLemmas.{OfServed}
@@ -61,6 +61,32 @@ module _ (m : Machine) (pid : Pid) where
       go : (b : Bool) → is_claim_of pid (m.claims k) ≡ b → ((if b then None else m.claims k) ≡ Some claim) ↔ (m.claims k ≡ Some claim)
       go true e = (λ f. absurd (none-some claim f), λ f. absurd (other (claimed_own (m.claims k) e claim f)))
       go false e = (λ f. f, λ f. f)
+
+  -- the interrupts of others are pending as before
+  abbrev pub KeepsPending : Machine → Type 0
+  KeepsPending after = (k : ℕ) (claim : Claim) → m.claims k ≡ Some claim → claim.pid ≢ pid → after.pending k ≡ m.pending k
+
+  put_pending : (k : ℕ) (new : Bool) → IsOwnClaim (m.claims k) → (j : ℕ) (claim : Claim) → m.claims j ≡ Some claim → claim.pid ≢ pid
+      → put_at nat_eq m.pending k new j ≡ m.pending j
+  put_pending k new own j claim there other = go (nat_eq j k) refl
+    where
+      go : (b : Bool) → nat_eq j k ≡ b → (if b then new else m.pending j) ≡ m.pending j
+      go true e = absurd (other (own claim (ap m.claims (sym (eqb-true j k e)) ∙ there)))
+      go false e = refl
+
+  pub taken_pending : (k : ℕ) → is_claim_of pid (m.claims k) ≡ true → (j : ℕ) (claim : Claim) → m.claims j ≡ Some claim → claim.pid ≢ pid
+      → put_at nat_eq m.pending k false j ≡ m.pending j
+  taken_pending k own = put_pending k false (claimed_own (m.claims k) own)
+
+  and_true : (b : Bool) → b && true ≡ b
+  and_true true = refl
+  and_true false = refl
+
+  pub forgotten_pending : (k : ℕ) (claim : Claim) → m.claims k ≡ Some claim → claim.pid ≢ pid
+      → m.pending k && not (is_claim_of pid (m.claims k)) ≡ m.pending k
+  forgotten_pending k claim there other =
+      ap (λ o. m.pending k && not (is_claim_of pid o)) there
+      ∙ (ap (λ b. m.pending k && not b) (apart_pid claim.pid pid other) ∙ and_true (m.pending k))
 
 module _ (m : Machine) (who : ThreadId) (w : List ℕ) where
   abbrev here : Machine
@@ -118,3 +144,18 @@ module _ (m : Machine) (who : ThreadId) (w : List ℕ) where
       of_parts (λ parts. names parts ClaimsPart) (λ change. KeepsClaims m who.pid change.machine) here w each_claim
       (λ change rest untouched k claim other.
       (λ f. ap (λ all. all k) (sym (rest.claims untouched)) ∙ f, λ f. ap (λ all. all k) (rest.claims untouched) ∙ f))
+
+  -- ---- pending interrupts
+
+  each_pending : OfChanging (λ parts. names parts PendingPart) (λ change. KeepsPending m who.pid change.machine) here w
+  unfolding closed senders_queued_gone senders_held_gone forgotten
+  each_pending =
+      (λ e none.
+      taken_pending m who.pid number (not_false (is_claim_of who.pid (m.claims number)) (none_hold (free_refusals here number) none).0))
+      also (λ e. forgotten_pending m who.pid)
+      also tt
+
+  pub call_pending : OfServed (λ change. KeepsPending m who.pid change.machine) (call here w)
+  call_pending =
+      of_parts (λ parts. names parts PendingPart) (λ change. KeepsPending m who.pid change.machine) here w each_pending
+      (λ change rest untouched k claim there other. ap (λ all. all k) (rest.pending untouched))

@@ -19,7 +19,7 @@ use Rattle.machine_model.specs.State.Order.{actor, turn}
 use Rattle.machine_model.specs.State.Threads.{put_thread, thread_id, with_state}
 use Rattle.machine_model.specs.Stepping.Acts.{does_instruction, executes}
 use Rattle.machine_model.specs.Stepping.Events.{killed, killed_if, picked, raised, raised_if}
-use Rattle.machine_model.specs.Stepping.Interrupts.{delivered, delivered_lowest, handler_started, is_free_for_interrupt, lowest_pending}
+use Rattle.machine_model.specs.Stepping.Interrupts.{delivered, delivered_lowest, handler_started, is_claim_of, is_free_for_interrupt, lowest_pending}
 use Rattle.machine_model.specs.Stepping.Reservations.{unreserved}
 use Rattle.machine_model.specs.Stepping.Step.{ends_handler, performed, step}
 use Rattle.machine_model.proofs.Runs.TimerLemmas.{pended_raised}
@@ -31,9 +31,10 @@ use Rattle.step_integrity.specs.Fates.{Doing, MadeCall}
 use Rattle.step_integrity.specs.KeptOthers.{KeepsOthers}
 use Rattle.step_integrity.proofs.AnswerLemmas.{either_why, not_why}
 use Rattle.step_integrity.proofs.CallLemmas.{call_keeps}
-use Rattle.step_integrity.proofs.DeathLemmas.{dead_claims, dead_pages, dead_processes, dead_servers, dead_threads}
+use Rattle.step_integrity.proofs.DeathLemmas.{dead_claims, dead_pages, dead_pending, dead_processes, dead_servers, dead_threads}
 use Rattle.step_integrity.proofs.OtherLemmas.{apart_pid}
 use Rattle.step_integrity.proofs.PartLemmas.{KeepsChange, KeepsParts, LeavesParts, left_parts, settled_parts, step_others}
+use Rattle.step_integrity.proofs.TimerLemmas.{lowest_claimed, started_pending}
 
 -- ---- deaths
 
@@ -50,6 +51,7 @@ module _ (m : Machine) (h : Matched m) (who : ThreadId) (call : Option MadeCall)
     threads = dead_threads m h who.pid who m.reserved threads others call;
     process = dead_processes m h who.pid who m.reserved threads others call;
     claims = dead_claims m h who.pid who m.reserved threads others call;
+    pending = dead_pending m h who.pid who m.reserved threads others call;
     servers = dead_servers m h who.pid who m.reserved threads others call;
     pages = dead_pages m h who.pid who m.reserved threads others call;
   }
@@ -68,12 +70,13 @@ module _ (m : Machine) (h : Matched m) (who : ThreadId) (call : Option MadeCall)
     threads = record { same = without_other; why = λ id other. not_why doing m.servers id None refl };
     process = λ other apart. refl;
     claims = λ k claim other. (λ f. f, λ f. f);
+    pending = λ k claim there other. refl;
     servers = (left_parts doing (put_thread who None here) bare).servers;
     pages = (left_parts doing (put_thread who None here) bare).pages;
   }
     where
       bare : LeavesParts doing (put_thread who None here)
-      bare = record { threads = without_other; process = refl; claims = refl; servers = refl; ledger = refl }
+      bare = record { threads = without_other; process = refl; claims = refl; pending = λ k claim there other. refl; servers = refl; ledger = refl }
 
   -- who joins the thread is of its process
   not_joining : (a0 : ℕ) (id : ThreadId) → id.pid ≢ who.pid → joiners_answered here who a0 id ≡ None
@@ -98,49 +101,57 @@ module _ (m : Machine) (h : Matched m) (who : ThreadId) (call : Option MadeCall)
         };
         process = keeps.process;
         claims = keeps.claims;
+        pending = keeps.pending;
         servers = keeps.servers;
         pages = keeps.pages;
       }
 
   -- ---- ends of handlers
 
-  started_leaves : (x : Machine) (k : ℕ) (o : Option Claim) → LeavesParts doing x
+  started_leaves : (x : Machine) (k : ℕ) → is_claim_of who.pid (x.claims k) ≡ true → (o : Option Claim) → LeavesParts doing x
       → LeavesParts doing (settled (handler_started x who.pid k o)).machine
   unfolding settled
-  started_leaves x k None leaves = record {
+  started_leaves x k own None leaves = record {
     threads = λ id other. unanswered (x.threads id) ∙ leaves.threads id other;
     process = leaves.process;
     claims = leaves.claims;
+    pending = leaves.pending;
     servers = leaves.servers;
     ledger = leaves.ledger;
   }
-  started_leaves x k (Some claim) leaves = record {
+  started_leaves x k own (Some c) leaves = record {
     threads = λ id other. unanswered _ ∙ (rw (other_thread id (thread_id who.pid 1) other) (leaves.threads id other));
     process = leaves.process;
     claims = leaves.claims;
+    pending = λ j claim there other.
+        started_pending x who.pid j claim (ap (λ all. all j) leaves.claims ∙ there) other k own (Some c) ∙ leaves.pending j claim there other;
     servers = leaves.servers;
     ledger = leaves.ledger;
   }
 
-  lowest_leaves : (x : Machine) (o : Option ℕ) → LeavesParts doing x → LeavesParts doing (settled (delivered_lowest x who.pid o)).machine
+  lowest_leaves : (x : Machine) (o : Option ℕ) → (if is_free_for_interrupt x who.pid then lowest_pending x who.pid else None) ≡ o
+      → LeavesParts doing x → LeavesParts doing (settled (delivered_lowest x who.pid o)).machine
   unfolding settled
-  lowest_leaves x None leaves = record {
+  lowest_leaves x None e leaves = record {
     threads = λ id other. unanswered (x.threads id) ∙ leaves.threads id other;
     process = leaves.process;
     claims = leaves.claims;
+    pending = leaves.pending;
     servers = leaves.servers;
     ledger = leaves.ledger;
   }
-  lowest_leaves x (Some k) leaves = started_leaves x k (x.claims k) leaves
+  lowest_leaves x (Some k) e leaves =
+      started_leaves x k (lowest_claimed x who.pid (is_free_for_interrupt x who.pid) k e) (x.claims k) leaves
 
   handled_leaves : LeavesParts doing (settled (handler_ended who.pid here)).machine
   unfolding handler_ended delivered
   handled_leaves =
-      lowest_leaves idle (if is_free_for_interrupt idle who.pid then lowest_pending idle who.pid else None)
+      lowest_leaves idle (if is_free_for_interrupt idle who.pid then lowest_pending idle who.pid else None) refl
       (record {
         threads = λ id other. rw (other_thread id (thread_id who.pid 1) other) refl;
         process = refl;
         claims = refl;
+        pending = λ k claim there other. refl;
         servers = refl;
         ledger = refl;
       })
@@ -191,6 +202,7 @@ untimed by after keeps = record {
   threads = λ id other none. keeps.threads id other;
   process = keeps.process;
   claims = keeps.claims;
+  pending = λ k claim there other none. keeps.pending k claim there other;
   servers = keeps.servers;
   homes = keeps.pages.homes;
   orphans = keeps.pages.orphans;
@@ -204,13 +216,21 @@ kill_keeps pid m h = go (m.process pid.0).alive
     go false =
         untimed (by_kill pid m) (unreserved m)
         (left_parts (by_kill pid m) (unreserved m)
-        (record { threads = λ id other. refl; process = refl; claims = refl; servers = refl; ledger = refl }))
+        (record {
+          threads = λ id other. refl;
+          process = refl;
+          claims = refl;
+          pending = λ k claim there other. refl;
+          servers = refl;
+          ledger = refl;
+        }))
     go true =
         untimed (by_kill pid m) (settled (death pid (unreserved m))).machine
         (settled_parts (by_kill pid m) (death pid (unreserved m)) (record {
           threads = dead_threads m h pid m.cursor None m.threads (λ id other. refl) None;
           process = dead_processes m h pid m.cursor None m.threads (λ id other. refl) None;
           claims = dead_claims m h pid m.cursor None m.threads (λ id other. refl) None;
+          pending = dead_pending m h pid m.cursor None m.threads (λ id other. refl) None;
           servers = dead_servers m h pid m.cursor None m.threads (λ id other. refl) None;
           pages = dead_pages m h pid m.cursor None m.threads (λ id other. refl) None;
         }))
