@@ -2,3 +2,4 @@ pub mod Accepting
 pub mod DeliveredOnce
 pub mod Following
 pub mod NothingLost
+pub mod Serving

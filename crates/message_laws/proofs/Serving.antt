@@ -1,0 +1,3 @@
+pub mod AtServerLemmas
+pub mod RowLemmas
+pub mod ServedStepLemmas
