@@ -1,5 +1,7 @@
 pub mod Accepting
+pub mod Contents
 pub mod DeliveredOnce
 pub mod Following
 pub mod NothingLost
+pub mod Order
 pub mod Serving
