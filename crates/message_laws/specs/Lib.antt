@@ -1,4 +1,5 @@
 pub mod Accepting
+pub mod Answered
 pub mod Contents
 pub mod DeliveredOnce
 pub mod Following

@@ -6,6 +6,7 @@ ghost use Rattle.machine_history.specs.HistoryMoments.{moments_of};
 ghost use Rattle.machine_model.specs.Runs.Matched.{Matched};
 ghost use Rattle.machine_model.specs.Runs.Moments.{IsRun, Moment};
 ghost use Rattle.machine_model.specs.State.Machine.{Machine};
+ghost use Rattle.message_laws.specs.Answered.{SendersAreAnswered};
 ghost use Rattle.message_laws.specs.Contents.{DeliveredAsSent};
 ghost use Rattle.message_laws.specs.Order.{OrderKept};
 ghost use Rattle.message_laws.specs.Serving.{AllAreServed};
@@ -31,4 +32,10 @@ pub fn messages_are_delivered_as_sent()
 pub fn messages_keep_their_order()
     ensures runs { (start : Machine) (moments : List Moment) → Matched start → IsRun start moments → OrderKept start moments }
     ensures histories { (events : List Event) (limit : ℕ) (start : Machine) → Matched start → OrderKept start (moments_of events limit start) }
+{}
+
+/// **A sender's reply is the return of its message.** Whatever leads from a matched state, a reply to a thread that waits for the answer to a
+/// message has the words of the return of that very message, which the caller of the step makes; or it tells that there is no server.
+pub fn senders_get_their_return()
+    ensures { SendersAreAnswered }
 {}

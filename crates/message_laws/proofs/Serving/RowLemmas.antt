@@ -2,10 +2,11 @@
 use Rattle.std.proofs.Common.{◌≡◌, ◌≢◌, ℕ, ◌<◌, ◌⊎◌, inl, inr, Bool, true, false, List, [], ◌∷◌, ◌++◌, get_or, length, Option, Some, None, refl, sym, ap, ◌∙◌, subst, arith}
 use Rattle.std.specs.Prelude.{◌==◌, ◌&&◌, if◌then◌else◌, is_none, is_some, nat_eq, not, slice_get, slice_index, unwrap_or}
 use Rattle.std.specs.Option.{option_and_then, option_map, option_map_or}
-use Rattle.std.proofs.lemmas.Bool.{and_parts, eq-eqb, eqb-true, false≢true}
+use Rattle.std.proofs.lemmas.Bool.{and_from, and_parts, eq-eqb, eqb-true, false≢true}
 use Rattle.std.proofs.lemmas.Option.{none-some, same_Some, slice_get-get_or}
 use Rattle.xk_base.specs.declared.errors.XousError.{XousError}
 use Rattle.xk_base.specs.declared.errors.XousError.TheVariants.{BadAddress, BadAlignment, DoubleFree, InvalidSyscall, MemoryInUse, ServerNotFound, ServerQueueFull, ShareViolation}
+use Rattle.xk_base.specs.declared.ids.Number.{Number}
 use Rattle.xk_base.specs.declared.ids.Pid.{Pid}
 use Rattle.xk_base.specs.declared.ids.Serial.{Serial}
 use Rattle.xk_base.specs.declared.ids.ThreadId.{ThreadId}
@@ -13,10 +14,11 @@ use Rattle.xk_base.specs.declared.ids.Vpn.{Vpn}
 use Rattle.xk_base.specs.declared.messages.Message.{Message}
 use Rattle.xk_base.specs.declared.messages.MsgKind.{MsgKind}
 use Rattle.xk_base.specs.declared.messages.MsgKind.TheVariants.{Scalar}
-use Rattle.xk_base.specs.Calls.CallNumbers.{reply_message, send_message, try_send_message, yield_turn}
+use Rattle.xk_base.specs.Calls.CallNumbers.{reply_message, return_memory, return_scalar1, return_scalar2, send_message, try_send_message, yield_turn}
 use Rattle.xk_base.specs.Calls.CallWords.{call_number, forward_cid, return_offset, return_valid, return_value1, return_value2, send_address, send_cid, send_length}
 use Rattle.xk_base.specs.Calls.Kinds.{is_answered}
 use Rattle.xk_base.specs.Calls.Replies.{connection_words, message_words, new_server_words, plain_words, range_words, returned_words, scalar1_words, scalar2_words, thread_words}
+use Rattle.xk_base.specs.Tables.Circle.{same_thread}
 use Rattle.xk_base.specs.Tables.Connections.{cid_for}
 use Rattle.xk_base.specs.Tables.Counting.{put_at}
 use Rattle.xk_base.specs.Tables.Sids.{serial_of}
@@ -27,21 +29,24 @@ use Rattle.machine_model.specs.Calling.ServerCalls.{named_server, named_sid, new
 use Rattle.machine_model.specs.Ending.Closing.{closed, is_sender_at, refused_server, senders_held_gone, senders_queued_gone, servers_closed, with_senderless_from, without_queued_from}
 use Rattle.machine_model.specs.Ending.Ends.{death, forgotten}
 use Rattle.machine_model.specs.Messaging.ForwardCalls.{are_one_server, is_passable_of, next_arrival, passable, passed_from, passed_number, passed_to, with_first}
-use Rattle.machine_model.specs.Messaging.Messages.{is_blocking_of, is_lend, is_lend_of, is_of_number, new_message, new_number, oldest, with_queued, with_received, without_held, without_oldest}
+use Rattle.machine_model.specs.Messaging.Messages.{is_blocking_of, is_lend, is_lend_of, is_of_number, is_sent_by, new_message, new_number, oldest, with_queued, with_received, without_held, without_oldest}
 use Rattle.machine_model.specs.Messaging.ReceiveCalls.{oldest_queued}
 use Rattle.machine_model.specs.Messaging.Receivers.{receiver, receiving_at}
 use Rattle.machine_model.specs.Messaging.ReturnCalls.{held_by_caller, holder_of, named_number, sender_gets, sender_of_message}
 use Rattle.machine_model.specs.Messaging.SendCalls.{arrival, is_full_for, named_kind, sender_answered, sender_left, sends_lend_mut, sends_pages, sent_pages, sent_place, sent_serial, with_sent}
 use Rattle.machine_model.specs.Runs.LoanSpan.{is_send}
-use Rattle.machine_model.specs.Runs.Matched.{IsServerAwaited, Matched}
+use Rattle.machine_model.specs.Runs.Matched.{IsServerAwaited, Matched, is_sent_as, is_waiting_for, waits_for}
 use Rattle.machine_model.specs.State.Changes.{Change}
 use Rattle.machine_model.specs.State.Connections.{own_connections}
-use Rattle.machine_model.specs.State.Machine.{Machine, Server}
-use Rattle.machine_model.specs.State.Order.{actor, turn}
+use Rattle.machine_model.specs.State.Machine.{Idle, Joining, Machine, Ready, Receiving, Server, Thread, ThreadState, Waiting}
+use Rattle.machine_model.specs.State.Order.{actor, ready_at, turn}
 use Rattle.machine_model.specs.Stepping.Acts.{call_by}
-use Rattle.machine_model.specs.State.Servers.{change_server, is_full, is_server_of, server_at}
+use Rattle.machine_model.specs.State.Servers.{change_server, is_full, is_server_of, messages_of, server_at}
 use Rattle.machine_model.specs.State.Threads.{Answers, answer_to, both_answers, no_answers}
+use Rattle.machine_model.specs.Messaging.MessageCounts.{HasIf, count_at}
+use Rattle.machine_model.proofs.Matching.CountLemmas.{all_right, none_pass}
 use Rattle.machine_laws.proofs.Calling.RunRefusalLemmas.{none_holds}
+use Rattle.machine_laws.proofs.Threading.ThreadAnswerLemmas.{IsReadyThread, ready_thread, same_thread-self}
 use Rattle.machine_laws.proofs.Returning.GivenBackLemmas.{found_at}
 use Rattle.machine_laws.proofs.Sending.SentReceiverLemmas.{receiver_receives}
 use Rattle.call_effects.specs.Deciding.{decide, rows}
@@ -53,11 +58,62 @@ use Rattle.call_effects.specs.Verdicts.{Row, Verdict}
 use Rattle.call_effects.proofs.MeantLemmas.{calls_meant}
 use Rattle.call_effects.proofs.RowLemmas.{OfRows, ◌also◌, of_row}
 use Rattle.call_effects.proofs.ServedLemmas.{OfPlan, OfServed, done, of_plan}
+use Rattle.message_laws.specs.Answered.{words_of_return}
+use Rattle.message_laws.specs.Following.{is_return_call}
 use Rattle.message_laws.specs.Serving.{Arrives, AtOnce, Ends, Founded, FromQueue, IsForwarded, IsMeant, IsSent, LetsGo, ListStep, Lists, LosesSender, Queues, Receives, ServerStep, Stays, Takes}
 use Rattle.span_laws.proofs.Fates.ServedFateLemmas.{some_of}
-use Rattle.message_laws.proofs.Following.ReturnLemmas.{IsHolder, holder}
+use Rattle.message_laws.proofs.Following.ReturnLemmas.{IsHolder, blocks_number, holder, lends_number}
 use Rattle.message_laws.proofs.Following.SendLemmas.{HasServerAt, sender_servers, server_there}
-use Rattle.message_laws.proofs.Serving.AtServerLemmas.{AreMeant, Serves, both_meant, none_meant, one_changes, one_meant, refused_meant, step_to}
+use Rattle.message_laws.proofs.Serving.AtServerLemmas.{AreMeant, IsSendersAnswer, Serves, both_meant, none_meant, one_changes, one_meant, refused_meant, step_to}
+
+-- ---- who waits for an answer
+
+-- a thread in another state waits for none
+pub not_waiting : (m : Machine) (id : ThreadId) (t : Thread) → m.threads id ≡ Some t → ((number : Number) → is_waiting_for number t.state ≡ false)
+    → (number : Number) → waits_for m.threads id number ≡ true → ⊥
+not_waiting m id t there none number waits =
+    false≢true (sym (none number) ∙ (sym (ap (λ o. option_map_or (λ (x : Thread). is_waiting_for number x.state) o false) there) ∙ waits))
+
+ready_waits_not : (s : ThreadState) → s ≡ Ready → (number : Number) → is_waiting_for number s ≡ false
+ready_waits_not s e number = ap (is_waiting_for number) e
+
+receiving_waits_not : (serial : Serial) (s : ThreadState) → s ≡ Receiving serial → (number : Number) → is_waiting_for number s ≡ false
+receiving_waits_not serial s e number = ap (is_waiting_for number) e
+
+-- a thread waits for one message
+one_waited : (o : Option Thread) (a b : Number) → option_map_or (λ (x : Thread). is_waiting_for a x.state) o false ≡ true
+    → option_map_or (λ (x : Thread). is_waiting_for b x.state) o false ≡ true → a.0 ≡ b.0
+one_waited None a b p q = absurd (false≢true p)
+one_waited (Some t) a b p q = go t.state p q
+  where
+    go : (s : ThreadState) → is_waiting_for a s ≡ true → is_waiting_for b s ≡ true → a.0 ≡ b.0
+    go Ready p q = absurd (false≢true p)
+    go (Receiving serial) p q = absurd (false≢true p)
+    go (Waiting other) p q = sym (eqb-true other.0 a.0 p) ∙ eqb-true other.0 b.0 q
+    go (Joining tid) p q = absurd (false≢true p)
+    go Idle p q = absurd (false≢true p)
+
+-- the sender of a held message waits for the answer to it
+sender_waits : (m : Machine) → Matched m → (test : Message → Bool) (x : Message) → IsHolder m test x → (who : ThreadId) → x.sender ≡ Some who
+    → waits_for m.threads who x.number ≡ true
+sender_waits m h test x at who sender = go (waits_for m.threads who x.number) refl (h.body.senders.senders who x.number)
+  where
+    place : (j : ℕ) × (d : Message) × (j < length at.server.held) × (get_or at.server.held j d ≡ x) × (test x ≡ true)
+    place = found_at test at.server.held x at.found
+
+    is_its : is_sent_as who x.number x ≡ true
+    is_its =
+        and_from (is_of_number x.number x) (is_sent_by who x) (eq-eqb x.number.0 x.number.0 refl)
+        (ap (λ o. option_map_or (same_thread who) o false) sender ∙ same_thread-self who)
+
+    go : (b : Bool) → waits_for m.threads who x.number ≡ b → HasIf b m.servers (is_sent_as who x.number) → b ≡ true
+    go true e has = refl
+    go false e has =
+        absurd (false≢true
+        (sym (all_right (λ y. is_sent_as who x.number y ≡ false) at.server.queued at.server.held
+        (none_pass (is_sent_as who x.number) (messages_of at.server) (sym (ap (count_at (is_sent_as who x.number)) at.there) ∙ has at.serial.0))
+        place.0 place.1 place.2)
+        ∙ (ap (is_sent_as who x.number) place.3 ∙ is_its)))
 
 -- ---- an arrival
 
@@ -86,7 +142,10 @@ module _ (m : Machine) (h : Matched m) (serial : Serial) (x : Message) (arrives 
       go None e = none_meant m
       go (Some who) e =
           let at = nothing_queued m h serial who e in
-          one_meant m who (message_words x) (inr (x, AtOnce serial.0 at.0 at.1 at.2 arrives, refl))
+          let thread = receiver_receives m serial who e in
+          one_meant m who (message_words x)
+          (inr (x, AtOnce serial.0 at.0 at.1 at.2 arrives, refl),
+          λ number waits. absurd (not_waiting m who thread.0 thread.1 (receiving_waits_not serial thread.0.state thread.2) number waits))
 
 -- ---- ends
 
@@ -118,13 +177,19 @@ module _ (m : Machine) (pid : Pid) where
 
 -- ---- rows
 
-module _ (m : Machine) (h : Matched m) (w : List ℕ) (acts : actor m ≡ Some m.cursor) (calls : call_by m m.cursor ≡ Some w) where
+module _ (m : Machine) (h : Matched m) (ready : ready_at m m.cursor ≡ true) (w : List ℕ) (acts : actor m ≡ Some m.cursor) (calls : call_by m m.cursor ≡ Some w) where
   abbrev OfCall : ℕ → Row → Type 0
   OfCall k row = call_number w ≡ k → OfPlan (λ plan. Serves m (done m plan)) (row m w)
 
+  -- the caller doesn't wait
+  pub not_cursor : (words : List ℕ) → IsSendersAnswer m m.cursor words
+  not_cursor words number waits =
+      let r : IsReadyThread m m.cursor = ready_thread m m.cursor ready in
+      absurd (not_waiting m m.cursor r.thread r.there (ready_waits_not r.thread.state r.ready) number waits)
+
   -- servers stay, and the caller is answered other words than a message's
   plain : (words : List ℕ) → ((slice_index words 0 == reply_message) ≡ false) → AreMeant m (answer_to m.cursor words)
-  plain words e = one_meant m m.cursor words (inl e)
+  plain words e = one_meant m m.cursor words (inl e, not_cursor words)
 
   still : (change : Change) → ((n : ℕ) → change.machine.servers n ≡ m.servers n) → AreMeant m change.answers → change.delivery ≡ None → Serves m change
   still change same meant none = record { servers = λ n. Stays (same n); answers = meant; delivery = none }
@@ -166,41 +231,80 @@ module _ (m : Machine) (h : Matched m) (w : List ℕ) (acts : actor m ≡ Some m
       go None e = otherwise
       go (Some x) e = record {
         servers = one_changes serial (at_server (Taken x)) m _ refl (λ server there. Takes x (first_of x e server there) refl);
-        answers = one_meant m m.cursor (message_words x) (at x e (m.servers serial.0) refl);
+        answers = one_meant m m.cursor (message_words x) (at x e (m.servers serial.0) refl, not_cursor (message_words x));
         delivery = refl;
       }
 
   -- ---- returns
 
-  sender_meant : (words : List ℕ) → ((slice_index words 0 == reply_message) ≡ false) → (o : Option ThreadId) → AreMeant m (sender_gets words o)
-  sender_meant words e None = none_meant m
-  sender_meant words e (Some who) = one_meant m who words (inl e)
+  sender_meant : (words : List ℕ) → ((slice_index words 0 == reply_message) ≡ false) → (o : Option ThreadId)
+      → ((who : ThreadId) → o ≡ Some who → IsSendersAnswer m who words) → AreMeant m (sender_gets words o)
+  sender_meant words e None given = none_meant m
+  sender_meant words e (Some who) given = one_meant m who words (inl e, given who refl)
 
-  given_meant : (words : List ℕ) → ((slice_index words 0 == reply_message) ≡ false) → (o : Option ThreadId)
-      → AreMeant m (both_answers (answer_to m.cursor plain_words) (sender_gets words o))
-  given_meant words e o = both_meant m (answer_to m.cursor plain_words) (sender_gets words o) (plain plain_words refl) (sender_meant words e o)
+  -- the sender of the message that the call names gets the words of the return
+  module _ (test : Message → Bool) (numbered : (x : Message) → test x ≡ true → is_of_number (named_number w) x ≡ true) (words : List ℕ)
+      (e : (slice_index words 0 == reply_message) ≡ false) (returns : is_return_call (call_number w) ≡ true) (given : words ≡ words_of_return w) where
+    sender_given : (o : Option Message) → held_by_caller m test ≡ o → (who : ThreadId) → sender_of_message o ≡ Some who → IsSendersAnswer m who words
+    sender_given None there who sender number waits = absurd (none-some who sender)
+    sender_given (Some x) there who sender number waits =
+        let at = holder m test x there in
+        let named : x.number.0 ≡ (named_number w).0 =
+        eqb-true x.number.0 (named_number w).0 (numbered x (found_at test at.server.held x at.found).4) in
+        let same : number.0 ≡ x.number.0 = one_waited (m.threads who) number x.number waits (sender_waits m h test x at who sender) in
+        inl (record {
+          who = m.cursor;
+          acts = acts;
+          call = w;
+          calls = calls;
+          returns = returns;
+          token = sym (same ∙ named);
+          given = given;
+        })
 
-  return_memory_serves : OfPlan (λ plan. Serves m (done m plan)) (return_memory_row m w)
-  return_memory_serves none = record {
+    given_meant : AreMeant m (both_answers (answer_to m.cursor plain_words) (sender_gets words (sender_of_message (held_by_caller m test))))
+    given_meant =
+        both_meant m (answer_to m.cursor plain_words) (sender_gets words (sender_of_message (held_by_caller m test))) (plain plain_words refl)
+        (sender_meant words e (sender_of_message (held_by_caller m test)) (sender_given (held_by_caller m test) refl))
+
+  -- the words by the number of the call
+  memory_words : call_number w ≡ return_memory → returned_words (return_offset w) (return_valid w) ≡ words_of_return w
+  memory_words e =
+      sym (ap (λ b. if b then returned_words (return_offset w) (return_valid w) else (
+      if call_number w == return_scalar1 then scalar1_words (return_value1 w) else scalar2_words (return_value1 w) (return_value2 w)))
+      (eq-eqb (call_number w) return_memory e))
+
+  one_word : call_number w ≡ return_scalar1 → scalar1_words (return_value1 w) ≡ words_of_return w
+  one_word e =
+      sym (ap (λ n. if n == return_memory then returned_words (return_offset w) (return_valid w) else (
+      if n == return_scalar1 then scalar1_words (return_value1 w) else scalar2_words (return_value1 w) (return_value2 w))) e)
+
+  two_words : call_number w ≡ return_scalar2 → scalar2_words (return_value1 w) (return_value2 w) ≡ words_of_return w
+  two_words e =
+      sym (ap (λ n. if n == return_memory then returned_words (return_offset w) (return_valid w) else (
+      if n == return_scalar1 then scalar1_words (return_value1 w) else scalar2_words (return_value1 w) (return_value2 w))) e)
+
+  return_memory_serves : call_number w ≡ return_memory → OfPlan (λ plan. Serves m (done m plan)) (return_memory_row m w)
+  return_memory_serves e none = record {
     servers = one_changes (unwrap_or (holder_of m (is_lend_of (named_number w))) (serial_of 0)) (without_held (named_number w)) m _ refl
         (λ server there. LetsGo (named_number w) refl);
-    answers = given_meant (returned_words (return_offset w) (return_valid w)) refl (sender_of_message (held_by_caller m (is_lend_of (named_number w))));
+    answers = given_meant (is_lend_of (named_number w)) (lends_number (named_number w)) (returned_words (return_offset w) (return_valid w)) refl (ap is_return_call e) (memory_words e);
     delivery = refl;
   }
 
-  return_scalar1_serves : OfPlan (λ plan. Serves m (done m plan)) (return_scalar1_row m w)
-  return_scalar1_serves none = record {
+  return_scalar1_serves : call_number w ≡ return_scalar1 → OfPlan (λ plan. Serves m (done m plan)) (return_scalar1_row m w)
+  return_scalar1_serves e none = record {
     servers = one_changes (unwrap_or (holder_of m (is_blocking_of (named_number w))) (serial_of 0)) (without_held (named_number w)) m _ refl
         (λ server there. LetsGo (named_number w) refl);
-    answers = given_meant (scalar1_words (return_value1 w)) refl (sender_of_message (held_by_caller m (is_blocking_of (named_number w))));
+    answers = given_meant (is_blocking_of (named_number w)) (blocks_number (named_number w)) (scalar1_words (return_value1 w)) refl (ap is_return_call e) (one_word e);
     delivery = refl;
   }
 
-  return_scalar2_serves : OfPlan (λ plan. Serves m (done m plan)) (return_scalar2_row m w)
-  return_scalar2_serves none = record {
+  return_scalar2_serves : call_number w ≡ return_scalar2 → OfPlan (λ plan. Serves m (done m plan)) (return_scalar2_row m w)
+  return_scalar2_serves e none = record {
     servers = one_changes (unwrap_or (holder_of m (is_blocking_of (named_number w))) (serial_of 0)) (without_held (named_number w)) m _ refl
         (λ server there. LetsGo (named_number w) refl);
-    answers = given_meant (scalar2_words (return_value1 w) (return_value2 w)) refl (sender_of_message (held_by_caller m (is_blocking_of (named_number w))));
+    answers = given_meant (is_blocking_of (named_number w)) (blocks_number (named_number w)) (scalar2_words (return_value1 w) (return_value2 w)) refl (ap is_return_call e) (two_words e);
     delivery = refl;
   }
 
@@ -403,12 +507,12 @@ module _ (m : Machine) (h : Matched m) (w : List ℕ) (acts : actor m ≡ Some m
       also (λ e passed none. still _ (λ n. refl) (plain (connection_words _) refl) refl)
       also (λ e none. still _ (λ n. refl) (plain (thread_words _) refl) refl)
       also (λ e none. still _ (λ n. refl) (plain plain_words refl) refl)
-      also (λ e. return_memory_serves)
+      also (λ e. return_memory_serves e)
       also (λ e. terminate_serves)
       also (λ e. try_send_serves e)
       also (λ e none. still _ (λ n. refl) (plain (connection_words _) refl) refl)
-      also (λ e. return_scalar1_serves)
-      also (λ e. return_scalar2_serves)
+      also (λ e. return_scalar1_serves e)
+      also (λ e. return_scalar2_serves e)
       also (λ e none. taken_serves (named_server m (named_sid w)) _ (still _ (λ n. refl) (plain plain_words refl) refl))
       also (λ e none. still _ (λ n. refl) (none_meant m) refl)
       also (λ e. destroy_serves)

@@ -2,11 +2,12 @@
 use Rattle.std.proofs.Common.{◌≡◌, ℕ, ◌+◌, ◌⊎◌, inl, inr, Bool, true, false, List, [], ◌∷◌, ◌++◌, map, Option, Some, None, refl, sym, ap, ◌∙◌, subst}
 use Rattle.std.specs.Prelude.{◌==◌, ◌%◌, if◌then◌else◌, is_some, nat_eq, slice_index_or, unwrap_or}
 use Rattle.std.specs.List.{All}
-use Rattle.std.specs.Option.{option_map}
-use Rattle.std.proofs.lemmas.Bool.{false≢true}
+use Rattle.std.specs.Option.{option_map, option_map_or}
+use Rattle.std.proofs.lemmas.Bool.{and_parts, false≢true}
 use Rattle.std.proofs.lemmas.List.Elements.{All-append, All-cons, All-map, All-nil}
 use Rattle.std.proofs.lemmas.Option.{none-some, same_Some}
 use Rattle.xk_base.specs.declared.errors.XousError.{XousError}
+use Rattle.xk_base.specs.declared.ids.Number.{Number}
 use Rattle.xk_base.specs.declared.ids.Pid.{Pid}
 use Rattle.xk_base.specs.declared.ids.ThreadId.{ThreadId}
 use Rattle.xk_base.specs.declared.records.Rec.{Rec}
@@ -20,13 +21,13 @@ use Rattle.xk_base.proofs.CircleLemmas.{listed_ids-passes}
 use Rattle.isolation_laws.specs.TwoRuns.{records_by}
 use Rattle.machine_model.specs.Calling.Calls.{call}
 use Rattle.machine_model.specs.Ending.Closing.{closed, is_sender_at, senders_held_gone, senders_queued_gone, servers_closed, with_senderless_from, without_queued_from}
-use Rattle.machine_model.specs.Ending.Ends.{death, end_with_last_thread, forgotten, handler_ended, has_threads, joiners_answered, thread_ended, waits_for_end}
+use Rattle.machine_model.specs.Ending.Ends.{death, end_with_last_thread, forgotten, handler_ended, has_threads, is_joining, joiners_answered, thread_ended, waits_for_end}
 use Rattle.machine_model.specs.Hart.Instructions.{CallsKernel, Executed, Next, Stores, StoresToConsole, StoresToTimer, Traps}
-use Rattle.machine_model.specs.Runs.Matched.{Matched}
+use Rattle.machine_model.specs.Runs.Matched.{Matched, is_waiting_for}
 use Rattle.machine_model.specs.Runs.Moments.{ByIrq, ByKill, ByPick, ByStep, ByTurn, Cause, caused}
 use Rattle.machine_model.specs.State.Changes.{Change, Delivery, Outcome, Refused, Retried, Served, Told, call_settled, death_told, delivery_told, only, replies, settled}
-use Rattle.machine_model.specs.State.Machine.{Claim, Idle, Machine, Server, Thread}
-use Rattle.machine_model.specs.State.Order.{actor, turn}
+use Rattle.machine_model.specs.State.Machine.{Claim, Idle, Joining, Machine, Ready, Receiving, Server, Thread, ThreadState, Waiting}
+use Rattle.machine_model.specs.State.Order.{actor, ready_at, turn}
 use Rattle.machine_model.specs.State.Servers.{is_server_of}
 use Rattle.machine_model.specs.State.Threads.{Answers, both_answers, change_thread, no_answers, passed, put_thread, thread_id, with_registers, with_state}
 use Rattle.machine_model.specs.State.Views.{stored, timer_set}
@@ -44,52 +45,57 @@ use Rattle.machine_laws.proofs.Threading.ThreadMoveLemmas.{matched_reserved}
 use Rattle.machine_laws.proofs.Threading.ThreadStepLemmas.{actor_ready, then_acted, turned_to}
 use Rattle.call_effects.proofs.ServedLemmas.{OfServed}
 use Rattle.record_laws.proofs.Answering.DueLemmas.{timed_holds}
+use Rattle.message_laws.specs.Answered.{IsSenderAnswered, SendersAreAnswered}
 use Rattle.message_laws.specs.Serving.{AllAreServed, IsDelivery, IsMeant, IsServed, ServerStep, Stays}
-use Rattle.message_laws.proofs.Serving.AtServerLemmas.{AreMeant, Serves, both_meant, call_turned, meant_like, none_meant, refused_meant, step_like, step_to}
-use Rattle.message_laws.proofs.Serving.RowLemmas.{death_meant, death_serves, served_serves}
+use Rattle.message_laws.proofs.Serving.AtServerLemmas.{AreMeant, IsTold, Serves, answer_like, both_meant, call_turned, meant_like, none_meant, refused_meant, step_like, step_to}
+use Rattle.message_laws.proofs.Serving.RowLemmas.{death_serves, not_cursor, served_serves}
 
 -- ---- what is told
 
+-- what a record says of deliveries and of answers
+abbrev pub IsRecordTold : Machine → What → Type 0
+IsRecordTold m what = IsDelivery m what × IsSenderAnswered m what
+
 pub record Does (m : Machine) (done : Told) : Type 0 where
   pub servers : (n : ℕ) → ServerStep m done.machine n
-  pub told : All (IsDelivery m) done.told
+  pub told : All (IsRecordTold m) done.told
 
 -- a record that is no reply
-first_does : (m : Machine) (what : What) (done : Told) → IsDelivery m what → Does m done → Does m (after what done)
-first_does m what done is does = record { servers = does.servers; told = All-cons (IsDelivery m) what done.told is does.told }
+first_does : (m : Machine) (what : What) (done : Told) → IsRecordTold m what → Does m done → Does m (after what done)
+first_does m what done is does = record { servers = does.servers; told = All-cons (IsRecordTold m) what done.told is does.told }
 
 none_does : (m next : Machine) → next.servers ≡ m.servers → Does m (record { machine = next; told = [] })
-none_does m next same = record { servers = λ n. Stays (ap (λ (s : ℕ → Option Server). s n) same); told = All-nil (IsDelivery m) }
+none_does m next same = record { servers = λ n. Stays (ap (λ (s : ℕ → Option Server). s n) same); told = All-nil (IsRecordTold m) }
 
 -- ---- a change
 
 module _ (m : Machine) (change : Change) (servers : (n : ℕ) → ServerStep m change.machine n) (meant : AreMeant m change.answers) where
-  each_reply : (id : ThreadId) → is_some (change.answers id) ≡ true → IsMeant m (unwrap_or (change.answers id) [])
+  each_reply : (id : ThreadId) → is_some (change.answers id) ≡ true → IsTold m id (unwrap_or (change.answers id) [])
   each_reply id some = go (change.answers id) refl some
     where
-      go : (o : Option (List ℕ)) → change.answers id ≡ o → is_some o ≡ true → IsMeant m (unwrap_or o [])
+      go : (o : Option (List ℕ)) → change.answers id ≡ o → is_some o ≡ true → IsTold m id (unwrap_or o [])
       go None e s = absurd (false≢true s)
       go (Some words) e s = meant id words e
 
-  all_replies : All (IsDelivery m) (replies change.machine.processes change.answers)
+  all_replies : All (IsRecordTold m) (replies change.machine.processes change.answers)
   all_replies =
-      All-map (IsDelivery m) (λ id. Reply id (unwrap_or (change.answers id) [])) (listed_ids change.machine.processes (λ id. is_some (change.answers id)))
+      All-map (IsRecordTold m) (λ id. Reply id (unwrap_or (change.answers id) [])) (listed_ids change.machine.processes (λ id. is_some (change.answers id)))
       (λ k d low. each_reply (slice_index_or (listed_ids change.machine.processes (λ id. is_some (change.answers id))) k d)
       (listed_ids-passes change.machine.processes (λ id. is_some (change.answers id)) k d low).1)
 
-  deliveries : (o : Option Delivery) → All (IsDelivery m) (delivery_told o)
-  deliveries None = All-nil (IsDelivery m)
-  deliveries (Some d) = All-cons (IsDelivery m) (Irq d.pid d.number) [] tt (All-nil (IsDelivery m))
+  deliveries : (o : Option Delivery) → All (IsRecordTold m) (delivery_told o)
+  deliveries None = All-nil (IsRecordTold m)
+  deliveries (Some d) = All-cons (IsRecordTold m) (Irq d.pid d.number) [] (tt, tt) (All-nil (IsRecordTold m))
 
-  deaths : (o : Option Pid) → All (IsDelivery m) (death_told o)
-  deaths None = All-nil (IsDelivery m)
-  deaths (Some pid) = All-cons (IsDelivery m) (Gone pid) [] tt (All-nil (IsDelivery m))
+  deaths : (o : Option Pid) → All (IsRecordTold m) (death_told o)
+  deaths None = All-nil (IsRecordTold m)
+  deaths (Some pid) = All-cons (IsRecordTold m) (Gone pid) [] (tt, tt) (All-nil (IsRecordTold m))
 
-  settled_told : All (IsDelivery m) (settled change).told
+  settled_told : All (IsRecordTold m) (settled change).told
   unfolding settled
   settled_told =
-      All-append (IsDelivery m) (replies change.machine.processes change.answers) (delivery_told change.delivery ++ death_told change.gone) all_replies
-      (All-append (IsDelivery m) (delivery_told change.delivery) (death_told change.gone) (deliveries change.delivery) (deaths change.gone))
+      All-append (IsRecordTold m) (replies change.machine.processes change.answers) (delivery_told change.delivery ++ death_told change.gone) all_replies
+      (All-append (IsRecordTold m) (delivery_told change.delivery) (death_told change.gone) (deliveries change.delivery) (deaths change.gone))
 
   settled_servers : (settled change).machine.servers ≡ change.machine.servers
   unfolding settled
@@ -100,23 +106,24 @@ module _ (m : Machine) (change : Change) (servers : (n : ℕ) → ServerStep m c
 
 -- ---- calls
 
-module _ (m : Machine) (h : Matched m) (w : List ℕ) (acts : actor m ≡ Some m.cursor) (calls : call_by m m.cursor ≡ Some w) where
+module _ (m : Machine) (h : Matched m) (ready : ready_at m m.cursor ≡ true) (w : List ℕ) (acts : actor m ≡ Some m.cursor)
+    (calls : call_by m m.cursor ≡ Some w) where
   outcome_does : (o : Outcome) → OfServed (Serves m) o → Does m (call_settled m o)
   unfolding call_settled turn
   outcome_does (Refused error) of = record {
     servers = λ n. Stays refl;
-    told = All-cons (IsDelivery m) (Reply m.cursor (refused_words error)) [] (inl refl) (All-nil (IsDelivery m));
+    told = All-cons (IsRecordTold m) (Reply m.cursor (refused_words error)) [] (inl refl, not_cursor m h ready w acts calls (refused_words error)) (All-nil (IsRecordTold m));
   }
   outcome_does Retried of = record {
     servers = λ n. Stays refl;
-    told = All-cons (IsDelivery m) (Retry m.cursor) [] tt (All-nil (IsDelivery m));
+    told = All-cons (IsRecordTold m) (Retry m.cursor) [] (tt, tt) (All-nil (IsRecordTold m));
   }
   outcome_does (Served change) of =
       change_does m (record change { machine = change_thread m.cursor passed change.machine })
       (λ n. step_to m change.machine (change_thread m.cursor passed change.machine) refl n (of.servers n)) of.answers
 
   pub call_does : Does m (after (Call m.cursor w) (call_settled m (call m w)))
-  call_does = first_does m (Call m.cursor w) (call_settled m (call m w)) tt (outcome_does (call m w) (served_serves m h w acts calls))
+  call_does = first_does m (Call m.cursor w) (call_settled m (call m w)) (tt, tt) (outcome_does (call m w) (served_serves m h ready w acts calls))
 
 -- ---- deaths and interrupts
 
@@ -172,17 +179,17 @@ back m who acts turned done does = record {
   told = told;
 }
   where
-    of : (what : What) → IsDelivery (turned_to who m) what → IsDelivery m what
-    of (Call other words) d = tt
-    of (Reply other words) d = meant_like m who acts turned words d
-    of (Retry other) d = tt
-    of (Byte other byte) d = tt
-    of (Fault other cause value) d = tt
-    of (End other) d = tt
-    of (Irq pid k) d = tt
-    of (Gone pid) d = tt
+    of : (what : What) → IsRecordTold (turned_to who m) what → IsRecordTold m what
+    of (Call other words) d = (tt, tt)
+    of (Reply other words) d = (meant_like m who acts turned words d.0, λ number waits. answer_like m who acts turned number words (d.1 number waits))
+    of (Retry other) d = (tt, tt)
+    of (Byte other byte) d = (tt, tt)
+    of (Fault other cause value) d = (tt, tt)
+    of (End other) d = (tt, tt)
+    of (Irq pid k) d = (tt, tt)
+    of (Gone pid) d = (tt, tt)
 
-    told : All (IsDelivery m) done.told
+    told : All (IsRecordTold m) done.told
     told k d low = of (slice_index_or done.told k d) (does.told k d low)
 
 module _ (m : Machine) (h : Matched m) (who : ThreadId) (acts : actor m ≡ Some who) where
@@ -196,7 +203,7 @@ module _ (m : Machine) (h : Matched m) (who : ThreadId) (acts : actor m ≡ Some
       go false = none_does m next same
       go true = record {
         servers = (none_does m next same).servers;
-        told = All-cons (IsDelivery m) (Byte who (value % 256)) [] tt (All-nil (IsDelivery m));
+        told = All-cons (IsRecordTold m) (Byte who (value % 256)) [] (tt, tt) (All-nil (IsRecordTold m));
       }
 
   turned_acts : actor n ≡ Some who
@@ -211,23 +218,37 @@ module _ (m : Machine) (h : Matched m) (who : ThreadId) (acts : actor m ≡ Some
   executed_does t there (StoresToTimer offset width value regs pc) e = none_does m (change_thread who (with_registers regs pc) (timer_set offset width value n)) refl
   executed_does t there CallsKernel e =
       back m who acts turned_acts _
-      (call_does n (matched_at who m h) (arguments_of t.regs) turned_acts (call_turned m who ∙ is_call m who t there e))
-  executed_does t there (Traps cause value) e = first_does m (Fault who cause value) (settled (death who.pid n)) tt (dies_does m n who.pid refl)
+      (call_does n (matched_at who m h) (actor_ready m who acts) (arguments_of t.regs) turned_acts (call_turned m who ∙ is_call m who t there e))
+  executed_does t there (Traps cause value) e = first_does m (Fault who cause value) (settled (death who.pid n)) (tt, tt) (dies_does m n who.pid refl)
 
   joiners_meant : (a0 : ℕ) → AreMeant m (joiners_answered n who a0)
-  joiners_meant a0 id words e = go (waits_for_end who id (n.threads id)) e
+  joiners_meant a0 id words e = go (waits_for_end who id (n.threads id)) refl e
     where
-      go : (b : Bool) → (if b then Some (scalar1_words a0) else None) ≡ Some words → IsMeant m words
-      go true q = subst (IsMeant m) (same_Some (scalar1_words a0) words q) (inl refl)
-      go false q = absurd (none-some words q)
+      joins : (o : Option Thread) → waits_for_end who id o ≡ true → (number : Number)
+          → option_map_or (λ (x : Thread). is_waiting_for number x.state) o false ≡ true → ⊥
+      joins None p number waits = false≢true p
+      joins (Some t) p number waits = by t.state (and_parts (id.pid.0 == who.pid.0) (is_joining who.tid t.state) p).1 waits
+        where
+          by : (s : ThreadState) → is_joining who.tid s ≡ true → is_waiting_for number s ≡ true → ⊥
+          by Ready q r = false≢true q
+          by (Receiving serial) q r = false≢true q
+          by (Waiting other) q r = false≢true q
+          by (Joining tid) q r = false≢true r
+          by Idle q r = false≢true q
+
+      go : (b : Bool) → waits_for_end who id (n.threads id) ≡ b → (if b then Some (scalar1_words a0) else None) ≡ Some words → IsTold m id words
+      go true p q =
+          subst (IsTold m id) (same_Some (scalar1_words a0) words q)
+          (inl refl, λ number waits. absurd (joins (m.threads id) p number waits))
+      go false p q = absurd (none-some words q)
 
   thread_end_does : (a0 : ℕ) → Does m (after (End who) (settled (thread_ended who a0 n)))
   unfolding thread_ended
-  thread_end_does a0 = first_does m (End who) (settled (thread_ended who a0 n)) tt (go (has_threads (put_thread who None n) who.pid))
+  thread_end_does a0 = first_does m (End who) (settled (thread_ended who a0 n)) (tt, tt) (go (has_threads (put_thread who None n) who.pid))
     where
       go : (b : Bool) → Does m (settled (record (end_with_last_thread b who.pid (put_thread who None n)) {
-        answers = both_answers (joiners_answered n who a0) (end_with_last_thread b who.pid (put_thread who None n)).answers;
-      }))
+            answers = both_answers (joiners_answered n who a0) (end_with_last_thread b who.pid (put_thread who None n)).answers;
+          }))
       go true =
           change_does m (record (only (put_thread who None n)) { answers = both_answers (joiners_answered n who a0) no_answers }) (λ k. Stays refl)
           (both_meant m (joiners_answered n who a0) no_answers (joiners_meant a0) (none_meant m))
@@ -238,7 +259,7 @@ module _ (m : Machine) (h : Matched m) (who : ThreadId) (acts : actor m ≡ Some
   handler_end_does : Does m (after (End who) (settled (handler_ended who.pid n)))
   unfolding handler_ended
   handler_end_does =
-      first_does m (End who) (settled (delivered who.pid (change_thread (thread_id who.pid 1) (with_state Idle) n))) tt
+      first_does m (End who) (settled (delivered who.pid (change_thread (thread_id who.pid 1) (with_state Idle) n))) (tt, tt)
       (delivered_does m (change_thread (thread_id who.pid 1) (with_state Idle) n) refl who.pid)
 
   acted_does : StepKind m who → (t : Thread) × (m.threads who ≡ Some t) × Does m (acted n t)
@@ -258,25 +279,25 @@ module _ (m : Machine) (h : Matched m) (who : ThreadId) (acts : actor m ≡ Some
 timed_does : (m : Machine) (done : Told) → Does m done → Does m (timed done)
 timed_does m done does = record {
   servers = λ n. step_to m done.machine (timed done).machine (ap (λ (x : Machine). x.servers) (timed_raised done).is) n (does.servers n);
-  told = timed_holds (IsDelivery m) (λ pid k. tt) (λ pid. tt) done does.told;
+  told = timed_holds (IsRecordTold m) (λ pid k. (tt, tt)) (λ pid. (tt, tt)) done does.told;
 }
 
 -- ---- any cause
 
 pub record DoesSo (m : Machine) (next : Recorded) : Type 0 where
   pub servers : (n : ℕ) → ServerStep m next.machine n
-  pub deliveries : All (λ (rec : Rec). IsDelivery m rec.what) next.records
+  pub told : All (λ (rec : Rec). IsRecordTold m rec.what) next.records
 
 recorded_so : (m : Machine) (k : ℕ) (done : Told) → Does m done → DoesSo m (record { machine = done.machine; records = map (record_of k) done.told })
 recorded_so m k done does = record {
   servers = does.servers;
-  deliveries = All-map (λ (rec : Rec). IsDelivery m rec.what) (record_of k) done.told does.told;
+  told = All-map (λ (rec : Rec). IsRecordTold m rec.what) (record_of k) done.told does.told;
 }
 
 nothing_so : (m next : Machine) → next.servers ≡ m.servers → DoesSo m (record { machine = next; records = [] })
 nothing_so m next same = record {
   servers = λ n. Stays (ap (λ (s : ℕ → Option Server). s n) same);
-  deliveries = All-nil (λ (rec : Rec). IsDelivery m rec.what);
+  told = All-nil (λ (rec : Rec). IsRecordTold m rec.what);
 }
 
 abbrev stepped : Machine → ThreadId → Option Thread → Recorded
@@ -327,4 +348,7 @@ cause_so ByTurn m h = nothing_so m (turn m) refl
 pub all_served : AllAreServed
 all_served cause m h =
     let so = cause_so cause m h in
-    record { servers = so.servers; deliveries = so.deliveries }
+    record { servers = so.servers; deliveries = λ k d low. (so.told k d low).0 }
+
+pub senders_answered : SendersAreAnswered
+senders_answered cause m h k d low = ((cause_so cause m h).told k d low).1
