@@ -4,6 +4,10 @@
 
 mod accepted;
 mod deliveries;
+mod servers;
 
 pub use accepted::messages_are_accepted_once;
 pub use deliveries::{messages_are_delivered_once, messages_follow, nothing_is_lost};
+pub use servers::{
+    messages_are_delivered_as_sent, messages_keep_their_order, servers_do_one_thing,
+};

@@ -179,10 +179,10 @@ module _ (number : Number) (m : Machine) (h : Matched m) (w : List ℕ) (test : 
 
 -- ---- the calls
 
-lends_number : (k : Number) (x : Message) → is_lend_of k x ≡ true → is_of_number k x ≡ true
+pub lends_number : (k : Number) (x : Message) → is_lend_of k x ≡ true → is_of_number k x ≡ true
 lends_number k x e = (and_parts (is_of_number k x) (is_lend x.kind) e).0
 
-blocks_number : (k : Number) (x : Message) → is_blocking_of k x ≡ true → is_of_number k x ≡ true
+pub blocks_number : (k : Number) (x : Message) → is_blocking_of k x ≡ true → is_of_number k x ≡ true
 blocks_number k x e = (and_parts (is_of_number k x) (is_blocking_scalar x.kind) e).0
 
 module _ (number : Number) (m : Machine) (h : Matched m) (w : List ℕ) where

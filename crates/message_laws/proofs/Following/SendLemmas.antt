@@ -102,7 +102,7 @@ receiver_known m h serial who e =
 
 -- ---- the send
 
-sender_servers : (b : Bool) (k : Number) (m : Machine) → (sender_left b k m).servers ≡ m.servers
+pub sender_servers : (b : Bool) (k : Number) (m : Machine) → (sender_left b k m).servers ≡ m.servers
 sender_servers true k m = refl
 sender_servers false k m = refl
 

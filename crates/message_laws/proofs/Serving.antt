@@ -1,0 +1,5 @@
+pub mod AtServerLemmas
+pub mod ContentLemmas
+pub mod OrderLemmas
+pub mod RowLemmas
+pub mod ServedStepLemmas

@@ -1,0 +1,41 @@
+//! What happens at servers, and with which words messages are delivered.
+
+ghost use Rattle.std.specs.Prelude.{ℕ, List};
+ghost use Rattle.xk_base.specs.declared.events.Event.{Event};
+ghost use Rattle.machine_history.specs.HistoryMoments.{moments_of};
+ghost use Rattle.machine_model.specs.Runs.Matched.{Matched};
+ghost use Rattle.machine_model.specs.Runs.Moments.{IsRun, Moment};
+ghost use Rattle.machine_model.specs.State.Machine.{Machine};
+ghost use Rattle.message_laws.specs.Answered.{SendersAreAnswered};
+ghost use Rattle.message_laws.specs.Contents.{DeliveredAsSent};
+ghost use Rattle.message_laws.specs.Order.{OrderKept};
+ghost use Rattle.message_laws.specs.Serving.{AllAreServed};
+
+/// **Each server does one thing at a time.** In each step, event and end of a turn from a matched state a server stays as it is, is
+/// founded without a message, ends, or does one of these: a message that is sent or forwarded now is its newest queued, or is received at
+/// once where none is queued; its oldest queued message is received; a held one goes; or it loses what a process that dies has queued.
+/// Each reply that has the words of a message is of one that is received so.
+pub fn servers_do_one_thing()
+    ensures { AllAreServed }
+{}
+
+/// **A message is delivered as it was sent.** In a run from a matched state each reply with a message whose number a moment of the run
+/// accepted has the kind, the id and the words of that moment's send. Where it carries pages, the address is the receiver's.
+pub fn messages_are_delivered_as_sent()
+    ensures runs { (start : Machine) (moments : List Moment) → Matched start → IsRun start moments → DeliveredAsSent start moments }
+    ensures histories { (events : List Event) (limit : ℕ) (start : Machine) → Matched start
+        → DeliveredAsSent start (moments_of events limit start) }
+{}
+
+/// **A server's messages keep their order.** Where one message stands before another in a server's queue, the other isn't what the server
+/// gives next, in any later state of a run from a matched state up to which the one stayed queued there.
+pub fn messages_keep_their_order()
+    ensures runs { (start : Machine) (moments : List Moment) → Matched start → IsRun start moments → OrderKept start moments }
+    ensures histories { (events : List Event) (limit : ℕ) (start : Machine) → Matched start → OrderKept start (moments_of events limit start) }
+{}
+
+/// **A sender's reply is the return of its message.** Whatever leads from a matched state, a reply to a thread that waits for the answer to a
+/// message has the words of the return of that very message, which the caller of the step makes; or it tells that there is no server.
+pub fn senders_get_their_return()
+    ensures { SendersAreAnswered }
+{}
