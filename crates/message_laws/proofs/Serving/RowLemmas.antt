@@ -143,9 +143,10 @@ module _ (m : Machine) (h : Matched m) (serial : Serial) (x : Message) (arrives 
       go (Some who) e =
           let at = nothing_queued m h serial who e in
           let thread = receiver_receives m serial who e in
-          one_meant m who (message_words x)
-          (inr (x, AtOnce serial.0 at.0 at.1 at.2 arrives, refl),
-          λ number waits. absurd (not_waiting m who thread.0 thread.1 (receiving_waits_not serial thread.0.state thread.2) number waits))
+          one_meant m who (message_words x) (
+            inr (x, AtOnce serial.0 at.0 at.1 at.2 arrives, refl),
+            λ number waits. absurd (not_waiting m who thread.0 thread.1 (receiving_waits_not serial thread.0.state thread.2) number waits),
+          )
 
 -- ---- ends
 

@@ -247,8 +247,8 @@ module _ (m : Machine) (h : Matched m) (who : ThreadId) (acts : actor m ≡ Some
   thread_end_does a0 = first_does m (End who) (settled (thread_ended who a0 n)) (tt, tt) (go (has_threads (put_thread who None n) who.pid))
     where
       go : (b : Bool) → Does m (settled (record (end_with_last_thread b who.pid (put_thread who None n)) {
-            answers = both_answers (joiners_answered n who a0) (end_with_last_thread b who.pid (put_thread who None n)).answers;
-          }))
+        answers = both_answers (joiners_answered n who a0) (end_with_last_thread b who.pid (put_thread who None n)).answers;
+      }))
       go true =
           change_does m (record (only (put_thread who None n)) { answers = both_answers (joiners_answered n who a0) no_answers }) (λ k. Stays refl)
           (both_meant m (joiners_answered n who a0) no_answers (joiners_meant a0) (none_meant m))
