@@ -1,11 +1,11 @@
 -- What each served call does at each server.
-use Rattle.std.proofs.Common.{◌≡◌, ◌≢◌, ℕ, ◌<◌, ◌⊎◌, inl, inr, Bool, true, false, List, [], ◌∷◌, ◌++◌, get_or, length, Option, Some, None, refl, sym, ap, ◌∙◌, subst, arith}
-use Rattle.std.specs.Prelude.{◌==◌, ◌&&◌, if◌then◌else◌, is_none, is_some, nat_eq, not, slice_get, slice_index, unwrap_or}
+use Rattle.std.proofs.Common.{◌≡◌, ◌≢◌, ℕ, ◌<◌, inl, inr, Bool, true, false, List, [], ◌∷◌, ◌++◌, get_or, length, Option, Some, None, refl, sym, ap, ◌∙◌, subst, arith}
+use Rattle.std.specs.Prelude.{◌==◌, ◌&&◌, if◌then◌else◌, is_none, is_some, nat_eq, slice_index, unwrap_or}
 use Rattle.std.specs.Option.{option_and_then, option_map, option_map_or}
 use Rattle.std.proofs.lemmas.Bool.{and_from, and_parts, eq-eqb, eqb-true, false≢true}
 use Rattle.std.proofs.lemmas.Option.{none-some, same_Some, slice_get-get_or}
 use Rattle.xk_base.specs.declared.errors.XousError.{XousError}
-use Rattle.xk_base.specs.declared.errors.XousError.TheVariants.{BadAddress, BadAlignment, DoubleFree, InvalidSyscall, MemoryInUse, ServerNotFound, ServerQueueFull, ShareViolation}
+use Rattle.xk_base.specs.declared.errors.XousError.TheVariants.{BadAddress, BadAlignment, DoubleFree, InvalidSyscall, ServerNotFound, ServerQueueFull, ShareViolation}
 use Rattle.xk_base.specs.declared.ids.Number.{Number}
 use Rattle.xk_base.specs.declared.ids.Pid.{Pid}
 use Rattle.xk_base.specs.declared.ids.Serial.{Serial}
@@ -29,11 +29,11 @@ use Rattle.machine_model.specs.Calling.ServerCalls.{named_server, named_sid, new
 use Rattle.machine_model.specs.Ending.Closing.{closed, is_sender_at, refused_server, senders_held_gone, senders_queued_gone, servers_closed, with_senderless_from, without_queued_from}
 use Rattle.machine_model.specs.Ending.Ends.{death, forgotten}
 use Rattle.machine_model.specs.Messaging.ForwardCalls.{are_one_server, is_passable_of, next_arrival, passable, passed_from, passed_number, passed_to, with_first}
-use Rattle.machine_model.specs.Messaging.Messages.{is_blocking_of, is_lend, is_lend_of, is_of_number, is_sent_by, new_message, new_number, oldest, with_queued, with_received, without_held, without_oldest}
+use Rattle.machine_model.specs.Messaging.Messages.{is_blocking_of, is_lend, is_lend_of, is_of_number, is_sent_by, new_message, new_number, oldest, without_held}
 use Rattle.machine_model.specs.Messaging.ReceiveCalls.{oldest_queued}
 use Rattle.machine_model.specs.Messaging.Receivers.{receiver, receiving_at}
 use Rattle.machine_model.specs.Messaging.ReturnCalls.{held_by_caller, holder_of, named_number, sender_gets, sender_of_message}
-use Rattle.machine_model.specs.Messaging.SendCalls.{arrival, is_full_for, named_kind, sender_answered, sender_left, sends_lend_mut, sends_pages, sent_pages, sent_place, sent_serial, with_sent}
+use Rattle.machine_model.specs.Messaging.SendCalls.{arrival, is_full_for, named_kind, sender_answered, sends_lend_mut, sends_pages, sent_pages, sent_place, sent_serial, with_sent}
 use Rattle.machine_model.specs.Runs.LoanSpan.{is_send}
 use Rattle.machine_model.specs.Runs.Matched.{IsServerAwaited, Matched, is_sent_as, is_waiting_for, waits_for}
 use Rattle.machine_model.specs.State.Changes.{Change}
@@ -42,7 +42,7 @@ use Rattle.machine_model.specs.State.Machine.{Idle, Joining, Machine, Ready, Rec
 use Rattle.machine_model.specs.State.Order.{actor, ready_at, turn}
 use Rattle.machine_model.specs.Stepping.Acts.{call_by}
 use Rattle.machine_model.specs.State.Servers.{change_server, is_full, is_server_of, messages_of, server_at}
-use Rattle.machine_model.specs.State.Threads.{Answers, answer_to, both_answers, no_answers}
+use Rattle.machine_model.specs.State.Threads.{answer_to, both_answers}
 use Rattle.machine_model.specs.Messaging.MessageCounts.{HasIf, count_at}
 use Rattle.machine_model.proofs.Matching.CountLemmas.{all_right, none_pass}
 use Rattle.machine_laws.proofs.Calling.RunRefusalLemmas.{none_holds}
@@ -58,13 +58,13 @@ use Rattle.call_effects.specs.Verdicts.{Row, Verdict}
 use Rattle.call_effects.proofs.MeantLemmas.{calls_meant}
 use Rattle.call_effects.proofs.RowLemmas.{OfRows, ◌also◌, of_row}
 use Rattle.call_effects.proofs.ServedLemmas.{OfPlan, OfServed, done, of_plan}
+use Rattle.span_laws.proofs.Fates.ServedFateLemmas.{some_of}
 use Rattle.message_laws.specs.Answered.{words_of_return}
 use Rattle.message_laws.specs.Following.{is_return_call}
 use Rattle.message_laws.specs.Serving.{Arrives, AtOnce, Ends, Founded, FromQueue, IsForwarded, IsMeant, IsSent, LetsGo, ListStep, Lists, LosesSender, Queues, Receives, ServerStep, Stays, Takes}
-use Rattle.span_laws.proofs.Fates.ServedFateLemmas.{some_of}
 use Rattle.message_laws.proofs.Following.ReturnLemmas.{IsHolder, blocks_number, holder, lends_number}
 use Rattle.message_laws.proofs.Following.SendLemmas.{HasServerAt, sender_servers, server_there}
-use Rattle.message_laws.proofs.Serving.AtServerLemmas.{AreMeant, IsSendersAnswer, Serves, both_meant, none_meant, one_changes, one_meant, refused_meant, step_to}
+use Rattle.message_laws.proofs.Serving.AtServerLemmas.{AreMeant, IsSendersAnswer, Serves, both_meant, none_meant, one_changes, one_meant, refused_meant}
 
 -- ---- who waits for an answer
 
@@ -143,9 +143,10 @@ module _ (m : Machine) (h : Matched m) (serial : Serial) (x : Message) (arrives 
       go (Some who) e =
           let at = nothing_queued m h serial who e in
           let thread = receiver_receives m serial who e in
-          one_meant m who (message_words x)
-          (inr (x, AtOnce serial.0 at.0 at.1 at.2 arrives, refl),
-          λ number waits. absurd (not_waiting m who thread.0 thread.1 (receiving_waits_not serial thread.0.state thread.2) number waits))
+          one_meant m who (message_words x) (
+            inr (x, AtOnce serial.0 at.0 at.1 at.2 arrives, refl),
+            λ number waits. absurd (not_waiting m who thread.0 thread.1 (receiving_waits_not serial thread.0.state thread.2) number waits),
+          )
 
 -- ---- ends
 
