@@ -46,7 +46,8 @@ use Rattle.record_laws.proofs.Answering.DueLemmas.{timed_holds}
 use Rattle.message_laws.specs.Answered.{IsSenderAnswered, SendersAreAnswered}
 use Rattle.message_laws.specs.Serving.{AllAreServed, IsDelivery, ServerStep, Stays}
 use Rattle.message_laws.proofs.Serving.AtServerLemmas.{AreMeant, IsTold, Serves, answer_like, both_meant, call_turned, meant_like, none_meant, refused_meant, step_like, step_to}
-use Rattle.message_laws.proofs.Serving.RowLemmas.{death_serves, not_cursor, served_serves}
+use Rattle.message_laws.proofs.Serving.ArrivalLemmas.{death_serves}
+use Rattle.message_laws.proofs.Serving.RowLemmas.{not_cursor, served_serves}
 
 -- ---- what is told
 
