@@ -1,3 +1,4 @@
+pub mod ArrivalLemmas
 pub mod AtServerLemmas
 pub mod ContentLemmas
 pub mod OrderLemmas

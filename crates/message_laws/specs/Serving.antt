@@ -54,7 +54,8 @@ pub data ListStep (m : Machine) (before after : Server) : Type 0 where
 -- .. and to a server: it stays as it is, is founded without a message, ends, or its lists do a step
 pub data ServerStep (m next : Machine) (n : ℕ) : Type 0 where
   Stays : next.servers n ≡ m.servers n → ServerStep m next n
-  Founded : (server : Server) → m.servers n ≡ None → next.servers n ≡ Some server → server.queued ≡ [] → server.held ≡ [] → ServerStep m next n
+  Founded : (server : Server) → m.servers n ≡ None → next.servers n ≡ Some server → server.queued ≡ [] → server.held ≡ []
+      → ServerStep m next n
   Ends : next.servers n ≡ None → ServerStep m next n
   Lists : (before after : Server) → m.servers n ≡ Some before → next.servers n ≡ Some after → ListStep m before after → ServerStep m next n
 

@@ -31,11 +31,13 @@ pub fn messages_are_delivered_as_sent()
 /// gives next, in any later state of a run from a matched state up to which the one stayed queued there.
 pub fn messages_keep_their_order()
     ensures runs { (start : Machine) (moments : List Moment) → Matched start → IsRun start moments → OrderKept start moments }
-    ensures histories { (events : List Event) (limit : ℕ) (start : Machine) → Matched start → OrderKept start (moments_of events limit start) }
+    ensures histories { (events : List Event) (limit : ℕ) (start : Machine) → Matched start
+        → OrderKept start (moments_of events limit start) }
 {}
 
-/// **A sender's reply is the return of its message.** Whatever leads from a matched state, a reply to a thread that waits for the answer to a
-/// message has the words of the return of that very message, which the caller of the step makes; or it tells that there is no server.
+/// **A sender's reply is the return of its message.** Whatever leads from a matched state, a reply to a thread that waits for the answer
+/// to a message has the words of the return of that very message, which the caller of the step makes; or it tells that there is no
+/// server.
 pub fn senders_get_their_return()
     ensures { SendersAreAnswered }
 {}

@@ -30,6 +30,12 @@ stands_once m number h =
     record { standing = some.0; stands = some.1; only = λ other stands. one_standing number m h other some.0 stands some.1 }
 
 module _ (number : Number) where
+  -- the end of a server or a process can end it
+  lost : (what : What) (later : List What) → is_end_in what later ≡ true → is_ending_of number what later ≡ true
+  lost what later e =
+      ap (λ b. is_return_of number what later || (is_last_delivery_of number what || b)) e
+      ∙ (ap (λ b. is_return_of number what later || b) (or_true (is_last_delivery_of number what)) ∙ or_true (is_return_of number what later))
+
   -- a record that makes a message over ends it
   says_ending : (what : What) (later : List What) (a b : Standing) → Says number what later a b → b ≡ Over → (a ≡ Over) ⊎ (is_ending_of number what later ≡ true)
   says_ending what later _ _ (Accepted _ _ e) p = absurd (let q : Queued ≡ Over = p in cc)
@@ -41,17 +47,7 @@ module _ (number : Number) where
   says_ending what later _ _ (Forwarded _ _ e) p = absurd (let q : Queued ≡ Over = p in cc)
   says_ending what later _ _ (Returned _ _ e) p = inr (λ i. e i || (is_last_delivery_of number what || is_end_in what later))
   says_ending what later _ _ (LostQueued _ _ e) p = inr (lost what later e)
-    where
-      lost : (what : What) (later : List What) → is_end_in what later ≡ true → is_ending_of number what later ≡ true
-      lost what later e =
-          ap (λ b. is_return_of number what later || (is_last_delivery_of number what || b)) e
-          ∙ (ap (λ b. is_return_of number what later || b) (or_true (is_last_delivery_of number what)) ∙ or_true (is_return_of number what later))
   says_ending what later _ _ (LostHeld _ _ e) p = inr (lost what later e)
-    where
-      lost : (what : What) (later : List What) → is_end_in what later ≡ true → is_ending_of number what later ≡ true
-      lost what later e =
-          ap (λ b. is_return_of number what later || (is_last_delivery_of number what || b)) e
-          ∙ (ap (λ b. is_return_of number what later || b) (or_true (is_last_delivery_of number what)) ∙ or_true (is_return_of number what later))
   says_ending what later _ _ (Stays _ _ a e) p = inl p
 
   later_ending : (what : What) (told : List What) → HasEnding number told → HasEnding number (what ∷ told)

@@ -1,6 +1,6 @@
 -- What a change of one server does at each, and what answers mean.
-use Rattle.std.proofs.Common.{◌≡◌, ◌≢◌, ℕ, ◌⊎◌, inl, inr, Bool, true, false, List, [], Option, Some, None, refl, sym, ap, ◌∙◌, subst}
-use Rattle.std.specs.Prelude.{◌==◌, if◌then◌else◌, nat_eq, slice_index}
+use Rattle.std.proofs.Common.{◌≡◌, ℕ, inl, inr, Bool, true, false, List, Option, Some, None, refl, sym, ap, ◌∙◌, subst}
+use Rattle.std.specs.Prelude.{if◌then◌else◌, nat_eq}
 use Rattle.std.specs.Option.{option_map, option_or}
 use Rattle.std.proofs.lemmas.Bool.{eqb-true}
 use Rattle.std.proofs.lemmas.Option.{none-some, same_Some}
@@ -9,7 +9,6 @@ use Rattle.xk_base.specs.declared.ids.Number.{Number}
 use Rattle.xk_base.specs.declared.ids.Serial.{Serial}
 use Rattle.xk_base.specs.declared.ids.ThreadId.{ThreadId}
 use Rattle.xk_base.specs.declared.messages.Message.{Message}
-use Rattle.xk_base.specs.Calls.CallNumbers.{reply_message}
 use Rattle.xk_base.specs.Calls.Replies.{refused_words}
 use Rattle.xk_base.specs.Tables.Circle.{same_thread}
 use Rattle.machine_model.specs.Ending.Closing.{refused_server}
@@ -19,11 +18,11 @@ use Rattle.machine_model.specs.State.Machine.{Machine, Server}
 use Rattle.machine_model.specs.State.Order.{actor}
 use Rattle.machine_model.specs.State.Views.{memory_of}
 use Rattle.machine_model.specs.Stepping.Acts.{call_by}
+use Rattle.machine_model.specs.State.Servers.{change_server}
+use Rattle.machine_model.specs.State.Threads.{Answers, answer_to, both_answers, no_answers}
 use Rattle.machine_laws.proofs.Threading.ThreadPutLemmas.{alike}
 use Rattle.machine_laws.proofs.Threading.ThreadStepLemmas.{turned_to}
 use Rattle.message_laws.specs.Answered.{IsAnswerTo}
-use Rattle.machine_model.specs.State.Servers.{change_server}
-use Rattle.machine_model.specs.State.Threads.{Answers, answer_to, both_answers, no_answers}
 use Rattle.message_laws.specs.Serving.{Arrives, AtOnce, Ends, Founded, FromQueue, IsDelivered, IsForwarded, IsMeant, IsSent, LetsGo, ListStep, Lists, LosesSender, Queues, Receives, ServerStep, Stays, Takes}
 
 -- ---- servers

@@ -1,9 +1,9 @@
 -- A message keeps what its send gave it, wherever it is, and is delivered so.
-use Rattle.std.proofs.Common.{◌≡◌, ◌≢◌, ℕ, zero, suc, ◌+◌, ◌<◌, ◌≤◌, ◌⊎◌, inl, inr, Bool, true, false, List, [], ◌∷◌, ◌++◌, cond, drop, filter, get_or, length, map, Option, Some, None, refl, sym, ap, ◌∙◌, subst, arith}
-use Rattle.std.specs.Prelude.{◌==◌, ◌&&◌, ◌*◌, if◌then◌else◌, not, slice_get, slice_index}
+use Rattle.std.proofs.Common.{◌≡◌, ℕ, zero, suc, ◌+◌, ◌<◌, ◌≤◌, inl, inr, Bool, true, false, List, [], ◌∷◌, ◌++◌, drop, get_or, Some, None, refl, sym, ap, ◌∙◌, subst, arith}
+use Rattle.std.specs.Prelude.{◌==◌, ◌*◌, if◌then◌else◌, not, slice_get, slice_index}
 use Rattle.std.specs.List.{All}
 use Rattle.std.specs.Option.{option_map_or}
-use Rattle.std.proofs.lemmas.Bool.{and_parts, eq-eqb, eqb-true, false≢true}
+use Rattle.std.proofs.lemmas.Bool.{and_parts, eqb-true, false≢true}
 use Rattle.std.proofs.lemmas.List.Elements.{All-append, All-cons, All-filter, All-head, All-map, All-nil, All-tail}
 use Rattle.std.proofs.lemmas.Option.{none-some, same_Some, slice_get_past}
 use Rattle.xk_base.specs.declared.events.Event.{Event}
@@ -11,14 +11,14 @@ use Rattle.xk_base.specs.declared.ids.Number.{Number}
 use Rattle.xk_base.specs.declared.ids.Pid.{Pid}
 use Rattle.xk_base.specs.declared.ids.ThreadId.{ThreadId}
 use Rattle.xk_base.specs.declared.ids.Vpn.{Vpn}
+use Rattle.xk_base.specs.declared.limits.TheConstants.{PAGE_SIZE}
 use Rattle.xk_base.specs.declared.messages.Message.{Message}
 use Rattle.xk_base.specs.declared.messages.MsgKind.{MsgKind}
 use Rattle.xk_base.specs.declared.messages.MsgKind.TheVariants.{BlockingScalar, Lend, LendMut, Move, Scalar}
 use Rattle.xk_base.specs.declared.records.Rec.{Rec}
-use Rattle.xk_base.specs.declared.records.What.{What}
 use Rattle.xk_base.specs.declared.records.What.TheVariants.{Reply}
 use Rattle.xk_base.specs.Calls.CallNumbers.{reply_message}
-use Rattle.xk_base.specs.Calls.CallWords.{send_address, send_id, send_kind, send_length, send_offset, send_valid}
+use Rattle.xk_base.specs.Calls.CallWords.{send_address, send_id, send_kind, send_length, send_offset, send_valid, send_words}
 use Rattle.xk_base.specs.Calls.Kinds.{is_answered, kind_at, kind_number}
 use Rattle.xk_base.specs.Calls.Replies.{message_words}
 use Rattle.isolation_laws.specs.TwoRuns.{records_by}
@@ -35,10 +35,10 @@ use Rattle.machine_model.specs.State.Servers.{messages_of}
 use Rattle.machine_model.specs.Stepping.Acts.{call_by}
 use Rattle.machine_model.proofs.Matching.CountLemmas.{all_left, all_right}
 use Rattle.machine_laws.proofs.Stepping.EveryStepLemmas.{every_cause_keeps}
-use Rattle.message_laws.specs.Accepting.{Accepts, AcceptsAt}
+use Rattle.message_laws.specs.Accepting.{Accepts}
 use Rattle.message_laws.specs.Contents.{DeliveredAsSent, IsAsSent, RepliesAt}
 use Rattle.message_laws.specs.Following.{is_message_of}
-use Rattle.message_laws.specs.Serving.{Arrives, AtOnce, Ends, Founded, FromQueue, IsDelivered, IsDelivery, IsForwarded, IsMeant, IsSent, IsServed, LetsGo, ListStep, Lists, LosesSender, Queues, Receives, ServerStep, Stays, Takes}
+use Rattle.message_laws.specs.Serving.{Arrives, AtOnce, Ends, Founded, FromQueue, IsDelivered, IsDelivery, IsForwarded, IsMeant, IsSent, LetsGo, ListStep, Lists, LosesSender, Queues, Receives, ServerStep, Stays, Takes}
 use Rattle.message_laws.proofs.Accepting.AcceptedLemmas.{moment_gives, run_climbs}
 use Rattle.message_laws.proofs.Serving.ServedStepLemmas.{all_served}
 
@@ -84,14 +84,14 @@ record IsFrom (w : List ℕ) (x : Message) : Type 0 where
   offset : slice_index x.words 2 ≡ send_offset w
   valid : slice_index x.words 3 ≡ send_valid w
 
+-- its words, by whether it carries pages
+abbrev words_of : List ℕ → Vpn → Bool → List ℕ
+words_of w first pages =
+    if pages then PAGE_SIZE * first.0 ∷ send_length w ∷ send_offset w ∷ send_valid w ∷ [] else send_words w
+
 from_new : (m : Machine) (kind : MsgKind) (w : List ℕ) (first : Vpn) → named_kind w ≡ Some kind → IsFrom w (new_message m kind w first)
 from_new m kind w first named = go (carries_pages kind) refl
   where
-    words : Bool → List ℕ
-    words b =
-        if b then 4096 * first.0 ∷ send_length w ∷ send_offset w ∷ send_valid w ∷ []
-        else slice_index w 4 ∷ slice_index w 5 ∷ slice_index w 6 ∷ slice_index w 7 ∷ []
-
     pages : sends_pages w ≡ carries_pages kind
     pages = ap (λ o. option_map_or carries_pages o false) named
 
@@ -100,17 +100,17 @@ from_new m kind w first named = go (carries_pages kind) refl
       kind = kind_of_number (send_kind w) kind named;
       id = refl;
       address = λ none. absurd (false≢true (sym none ∙ (pages ∙ e)));
-      length = ap (λ b. slice_index (if b then 4096 * first.0 ∷ send_length w ∷ send_offset w ∷ send_valid w ∷ [] else slice_index w 4 ∷ slice_index w 5 ∷ slice_index w 6 ∷ slice_index w 7 ∷ []) 1) e;
-      offset = ap (λ b. slice_index (if b then 4096 * first.0 ∷ send_length w ∷ send_offset w ∷ send_valid w ∷ [] else slice_index w 4 ∷ slice_index w 5 ∷ slice_index w 6 ∷ slice_index w 7 ∷ []) 2) e;
-      valid = ap (λ b. slice_index (if b then 4096 * first.0 ∷ send_length w ∷ send_offset w ∷ send_valid w ∷ [] else slice_index w 4 ∷ slice_index w 5 ∷ slice_index w 6 ∷ slice_index w 7 ∷ []) 3) e;
+      length = ap (λ b. slice_index (words_of w first b) 1) e;
+      offset = ap (λ b. slice_index (words_of w first b) 2) e;
+      valid = ap (λ b. slice_index (words_of w first b) 3) e;
     }
     go false e = record {
       kind = kind_of_number (send_kind w) kind named;
       id = refl;
-      address = λ none. ap (λ b. slice_index (if b then 4096 * first.0 ∷ send_length w ∷ send_offset w ∷ send_valid w ∷ [] else slice_index w 4 ∷ slice_index w 5 ∷ slice_index w 6 ∷ slice_index w 7 ∷ []) 0) e;
-      length = ap (λ b. slice_index (if b then 4096 * first.0 ∷ send_length w ∷ send_offset w ∷ send_valid w ∷ [] else slice_index w 4 ∷ slice_index w 5 ∷ slice_index w 6 ∷ slice_index w 7 ∷ []) 1) e;
-      offset = ap (λ b. slice_index (if b then 4096 * first.0 ∷ send_length w ∷ send_offset w ∷ send_valid w ∷ [] else slice_index w 4 ∷ slice_index w 5 ∷ slice_index w 6 ∷ slice_index w 7 ∷ []) 2) e;
-      valid = ap (λ b. slice_index (if b then 4096 * first.0 ∷ send_length w ∷ send_offset w ∷ send_valid w ∷ [] else slice_index w 4 ∷ slice_index w 5 ∷ slice_index w 6 ∷ slice_index w 7 ∷ []) 3) e;
+      address = λ none. ap (λ b. slice_index (words_of w first b) 0) e;
+      length = ap (λ b. slice_index (words_of w first b) 1) e;
+      offset = ap (λ b. slice_index (words_of w first b) 2) e;
+      valid = ap (λ b. slice_index (words_of w first b) 3) e;
     }
 
 -- all but the first word stay
@@ -123,9 +123,9 @@ from_forward w x first lends is = record {
   kind = is.kind;
   id = is.id;
   address = λ none. absurd (false≢true (sym none ∙ pages));
-  length = later_word (4096 * first.0) x.words 0 ∙ is.length;
-  offset = later_word (4096 * first.0) x.words 1 ∙ is.offset;
-  valid = later_word (4096 * first.0) x.words 2 ∙ is.valid;
+  length = later_word (PAGE_SIZE * first.0) x.words 0 ∙ is.length;
+  offset = later_word (PAGE_SIZE * first.0) x.words 1 ∙ is.offset;
+  valid = later_word (PAGE_SIZE * first.0) x.words 2 ∙ is.valid;
 }
   where
     pages : sends_pages w ≡ true

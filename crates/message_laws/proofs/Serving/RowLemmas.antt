@@ -1,13 +1,11 @@
 -- What each served call does at each server.
-use Rattle.std.proofs.Common.{◌≡◌, ◌≢◌, ℕ, ◌<◌, ◌⊎◌, inl, inr, Bool, true, false, List, [], ◌∷◌, ◌++◌, get_or, length, Option, Some, None, refl, sym, ap, ◌∙◌, subst, arith}
-use Rattle.std.specs.Prelude.{◌==◌, ◌&&◌, if◌then◌else◌, is_none, is_some, nat_eq, not, slice_get, slice_index, unwrap_or}
-use Rattle.std.specs.Option.{option_and_then, option_map, option_map_or}
-use Rattle.std.proofs.lemmas.Bool.{and_from, and_parts, eq-eqb, eqb-true, false≢true}
-use Rattle.std.proofs.lemmas.Option.{none-some, same_Some, slice_get-get_or}
+use Rattle.std.proofs.Common.{◌≡◌, ◌≢◌, ℕ, ◌<◌, inl, inr, Bool, true, false, List, [], ◌∷◌, ◌++◌, Option, Some, None, refl, sym, ap, ◌∙◌, subst, arith}
+use Rattle.std.specs.Prelude.{◌==◌, ◌&&◌, if◌then◌else◌, is_none, is_some, nat_eq, slice_index, unwrap_or}
+use Rattle.std.specs.Option.{option_and_then, option_map}
+use Rattle.std.proofs.lemmas.Bool.{and_parts, eq-eqb, eqb-true, false≢true}
+use Rattle.std.proofs.lemmas.Option.{none-some, slice_get-get_or}
 use Rattle.xk_base.specs.declared.errors.XousError.{XousError}
-use Rattle.xk_base.specs.declared.errors.XousError.TheVariants.{BadAddress, BadAlignment, DoubleFree, InvalidSyscall, MemoryInUse, ServerNotFound, ServerQueueFull, ShareViolation}
-use Rattle.xk_base.specs.declared.ids.Number.{Number}
-use Rattle.xk_base.specs.declared.ids.Pid.{Pid}
+use Rattle.xk_base.specs.declared.errors.XousError.TheVariants.{BadAddress, BadAlignment, DoubleFree, InvalidSyscall, ServerNotFound, ServerQueueFull, ShareViolation}
 use Rattle.xk_base.specs.declared.ids.Serial.{Serial}
 use Rattle.xk_base.specs.declared.ids.ThreadId.{ThreadId}
 use Rattle.xk_base.specs.declared.ids.Vpn.{Vpn}
@@ -18,7 +16,6 @@ use Rattle.xk_base.specs.Calls.CallNumbers.{reply_message, return_memory, return
 use Rattle.xk_base.specs.Calls.CallWords.{call_number, forward_cid, return_offset, return_valid, return_value1, return_value2, send_address, send_cid, send_length}
 use Rattle.xk_base.specs.Calls.Kinds.{is_answered}
 use Rattle.xk_base.specs.Calls.Replies.{connection_words, message_words, new_server_words, plain_words, range_words, returned_words, scalar1_words, scalar2_words, thread_words}
-use Rattle.xk_base.specs.Tables.Circle.{same_thread}
 use Rattle.xk_base.specs.Tables.Connections.{cid_for}
 use Rattle.xk_base.specs.Tables.Counting.{put_at}
 use Rattle.xk_base.specs.Tables.Sids.{serial_of}
@@ -26,29 +23,26 @@ use Rattle.ledger_model.specs.RunTests.{any_free, any_not_sent}
 use Rattle.machine_model.specs.Calling.Calls.{call}
 use Rattle.machine_model.specs.Calling.MemoryCalls.{caller_place, is_bad_range}
 use Rattle.machine_model.specs.Calling.ServerCalls.{named_server, named_sid, new_serial, new_server}
-use Rattle.machine_model.specs.Ending.Closing.{closed, is_sender_at, refused_server, senders_held_gone, senders_queued_gone, servers_closed, with_senderless_from, without_queued_from}
-use Rattle.machine_model.specs.Ending.Ends.{death, forgotten}
+use Rattle.machine_model.specs.Ending.Closing.{closed, is_sender_at, refused_server, servers_closed}
+use Rattle.machine_model.specs.Ending.Ends.{death}
 use Rattle.machine_model.specs.Messaging.ForwardCalls.{are_one_server, is_passable_of, next_arrival, passable, passed_from, passed_number, passed_to, with_first}
-use Rattle.machine_model.specs.Messaging.Messages.{is_blocking_of, is_lend, is_lend_of, is_of_number, is_sent_by, new_message, new_number, oldest, with_queued, with_received, without_held, without_oldest}
+use Rattle.machine_model.specs.Messaging.Messages.{is_blocking_of, is_lend, is_lend_of, is_of_number, new_message, new_number, oldest, without_held}
 use Rattle.machine_model.specs.Messaging.ReceiveCalls.{oldest_queued}
 use Rattle.machine_model.specs.Messaging.Receivers.{receiver, receiving_at}
 use Rattle.machine_model.specs.Messaging.ReturnCalls.{held_by_caller, holder_of, named_number, sender_gets, sender_of_message}
-use Rattle.machine_model.specs.Messaging.SendCalls.{arrival, is_full_for, named_kind, sender_answered, sender_left, sends_lend_mut, sends_pages, sent_pages, sent_place, sent_serial, with_sent}
+use Rattle.machine_model.specs.Messaging.SendCalls.{arrival, is_full_for, named_kind, sender_answered, sends_lend_mut, sends_pages, sent_pages, sent_place, sent_serial, with_sent}
 use Rattle.machine_model.specs.Runs.LoanSpan.{is_send}
-use Rattle.machine_model.specs.Runs.Matched.{IsServerAwaited, Matched, is_sent_as, is_waiting_for, waits_for}
+use Rattle.machine_model.specs.Runs.Matched.{Matched}
 use Rattle.machine_model.specs.State.Changes.{Change}
 use Rattle.machine_model.specs.State.Connections.{own_connections}
-use Rattle.machine_model.specs.State.Machine.{Idle, Joining, Machine, Ready, Receiving, Server, Thread, ThreadState, Waiting}
+use Rattle.machine_model.specs.State.Machine.{Machine, Server}
 use Rattle.machine_model.specs.State.Order.{actor, ready_at, turn}
 use Rattle.machine_model.specs.Stepping.Acts.{call_by}
-use Rattle.machine_model.specs.State.Servers.{change_server, is_full, is_server_of, messages_of, server_at}
-use Rattle.machine_model.specs.State.Threads.{Answers, answer_to, both_answers, no_answers}
-use Rattle.machine_model.specs.Messaging.MessageCounts.{HasIf, count_at}
-use Rattle.machine_model.proofs.Matching.CountLemmas.{all_right, none_pass}
+use Rattle.machine_model.specs.State.Servers.{change_server, is_full, server_at}
+use Rattle.machine_model.specs.State.Threads.{answer_to, both_answers}
 use Rattle.machine_laws.proofs.Calling.RunRefusalLemmas.{none_holds}
-use Rattle.machine_laws.proofs.Threading.ThreadAnswerLemmas.{IsReadyThread, ready_thread, same_thread-self}
+use Rattle.machine_laws.proofs.Threading.ThreadAnswerLemmas.{IsReadyThread, ready_thread}
 use Rattle.machine_laws.proofs.Returning.GivenBackLemmas.{found_at}
-use Rattle.machine_laws.proofs.Sending.SentReceiverLemmas.{receiver_receives}
 use Rattle.call_effects.specs.Deciding.{decide, rows}
 use Rattle.call_effects.specs.Effects.{Taken, arriving, at_server}
 use Rattle.call_effects.specs.Rows.MessageRows.{arrival_answers, forward_row, passed_if, return_memory_row, return_scalar1_row, return_scalar2_row, send_row, sent_to_row, taken_or, try_send_row}
@@ -58,123 +52,14 @@ use Rattle.call_effects.specs.Verdicts.{Row, Verdict}
 use Rattle.call_effects.proofs.MeantLemmas.{calls_meant}
 use Rattle.call_effects.proofs.RowLemmas.{OfRows, ◌also◌, of_row}
 use Rattle.call_effects.proofs.ServedLemmas.{OfPlan, OfServed, done, of_plan}
+use Rattle.span_laws.proofs.Fates.ServedFateLemmas.{some_of}
 use Rattle.message_laws.specs.Answered.{words_of_return}
 use Rattle.message_laws.specs.Following.{is_return_call}
-use Rattle.message_laws.specs.Serving.{Arrives, AtOnce, Ends, Founded, FromQueue, IsForwarded, IsMeant, IsSent, LetsGo, ListStep, Lists, LosesSender, Queues, Receives, ServerStep, Stays, Takes}
-use Rattle.span_laws.proofs.Fates.ServedFateLemmas.{some_of}
+use Rattle.message_laws.specs.Serving.{Arrives, Ends, Founded, FromQueue, IsForwarded, IsMeant, IsSent, LetsGo, Lists, ServerStep, Stays, Takes}
 use Rattle.message_laws.proofs.Following.ReturnLemmas.{IsHolder, blocks_number, holder, lends_number}
 use Rattle.message_laws.proofs.Following.SendLemmas.{HasServerAt, sender_servers, server_there}
-use Rattle.message_laws.proofs.Serving.AtServerLemmas.{AreMeant, IsSendersAnswer, Serves, both_meant, none_meant, one_changes, one_meant, refused_meant, step_to}
-
--- ---- who waits for an answer
-
--- a thread in another state waits for none
-pub not_waiting : (m : Machine) (id : ThreadId) (t : Thread) → m.threads id ≡ Some t → ((number : Number) → is_waiting_for number t.state ≡ false)
-    → (number : Number) → waits_for m.threads id number ≡ true → ⊥
-not_waiting m id t there none number waits =
-    false≢true (sym (none number) ∙ (sym (ap (λ o. option_map_or (λ (x : Thread). is_waiting_for number x.state) o false) there) ∙ waits))
-
-ready_waits_not : (s : ThreadState) → s ≡ Ready → (number : Number) → is_waiting_for number s ≡ false
-ready_waits_not s e number = ap (is_waiting_for number) e
-
-receiving_waits_not : (serial : Serial) (s : ThreadState) → s ≡ Receiving serial → (number : Number) → is_waiting_for number s ≡ false
-receiving_waits_not serial s e number = ap (is_waiting_for number) e
-
--- a thread waits for one message
-one_waited : (o : Option Thread) (a b : Number) → option_map_or (λ (x : Thread). is_waiting_for a x.state) o false ≡ true
-    → option_map_or (λ (x : Thread). is_waiting_for b x.state) o false ≡ true → a.0 ≡ b.0
-one_waited None a b p q = absurd (false≢true p)
-one_waited (Some t) a b p q = go t.state p q
-  where
-    go : (s : ThreadState) → is_waiting_for a s ≡ true → is_waiting_for b s ≡ true → a.0 ≡ b.0
-    go Ready p q = absurd (false≢true p)
-    go (Receiving serial) p q = absurd (false≢true p)
-    go (Waiting other) p q = sym (eqb-true other.0 a.0 p) ∙ eqb-true other.0 b.0 q
-    go (Joining tid) p q = absurd (false≢true p)
-    go Idle p q = absurd (false≢true p)
-
--- the sender of a held message waits for the answer to it
-sender_waits : (m : Machine) → Matched m → (test : Message → Bool) (x : Message) → IsHolder m test x → (who : ThreadId) → x.sender ≡ Some who
-    → waits_for m.threads who x.number ≡ true
-sender_waits m h test x at who sender = go (waits_for m.threads who x.number) refl (h.body.senders.senders who x.number)
-  where
-    place : (j : ℕ) × (d : Message) × (j < length at.server.held) × (get_or at.server.held j d ≡ x) × (test x ≡ true)
-    place = found_at test at.server.held x at.found
-
-    is_its : is_sent_as who x.number x ≡ true
-    is_its =
-        and_from (is_of_number x.number x) (is_sent_by who x) (eq-eqb x.number.0 x.number.0 refl)
-        (ap (λ o. option_map_or (same_thread who) o false) sender ∙ same_thread-self who)
-
-    go : (b : Bool) → waits_for m.threads who x.number ≡ b → HasIf b m.servers (is_sent_as who x.number) → b ≡ true
-    go true e has = refl
-    go false e has =
-        absurd (false≢true
-        (sym (all_right (λ y. is_sent_as who x.number y ≡ false) at.server.queued at.server.held
-        (none_pass (is_sent_as who x.number) (messages_of at.server) (sym (ap (count_at (is_sent_as who x.number)) at.there) ∙ has at.serial.0))
-        place.0 place.1 place.2)
-        ∙ (ap (is_sent_as who x.number) place.3 ∙ is_its)))
-
--- ---- an arrival
-
--- a thread that waits at a server finds no message queued there
-pub nothing_queued : (m : Machine) → Matched m → (serial : Serial) (who : ThreadId) → receiver m serial ≡ Some who
-    → (server : Server) × (m.servers serial.0 ≡ Some server) × (server.queued ≡ [])
-nothing_queued m h serial who e =
-    let at = receiver_receives m serial who e in
-    let awaited : IsServerAwaited m.servers who.pid serial = h.body.receivers who at.0 serial at.1 at.2 in
-    (awaited.server, awaited.live, awaited.empty)
-
-module _ (m : Machine) (h : Matched m) (serial : Serial) (x : Message) (arrives : Arrives m x) where
-  pub arrival_step : (server : Server) → m.servers serial.0 ≡ Some server → ListStep m server (at_server (arriving (receiver m serial) x) server)
-  arrival_step server there = go (receiver m serial) refl
-    where
-      go : (o : Option ThreadId) → receiver m serial ≡ o → ListStep m server (at_server (arriving o x) server)
-      go None e = Queues x arrives refl
-      go (Some who) e =
-          let at = nothing_queued m h serial who e in
-          Receives x arrives (ap (λ (s : Server). s.queued) (same_Some server at.0 (sym there ∙ at.1)) ∙ at.2) refl
-
-  pub arrival_meant : AreMeant m (arrival_answers (receiver m serial) x)
-  arrival_meant = go (receiver m serial) refl
-    where
-      go : (o : Option ThreadId) → receiver m serial ≡ o → AreMeant m (arrival_answers o x)
-      go None e = none_meant m
-      go (Some who) e =
-          let at = nothing_queued m h serial who e in
-          let thread = receiver_receives m serial who e in
-          one_meant m who (message_words x) (
-            inr (x, AtOnce serial.0 at.0 at.1 at.2 arrives, refl),
-            λ number waits. absurd (not_waiting m who thread.0 thread.1 (receiving_waits_not serial thread.0.state thread.2) number waits),
-          )
-
--- ---- ends
-
-module _ (m : Machine) (pid : Pid) where
-  pub death_serves : (n : ℕ) → ServerStep m (death pid m).machine n
-  unfolding death servers_closed closed senders_queued_gone senders_held_gone forgotten
-  death_serves n = go (is_server_of pid (m.servers n)) refl
-    where
-      now : (b : Bool) → is_server_of pid (m.servers n) ≡ b
-          → (death pid m).machine.servers n ≡ option_map (with_senderless_from pid) (option_map (without_queued_from pid) (if b then None else m.servers n))
-      now b e =
-          ap (λ c. option_map (with_senderless_from pid) (option_map (without_queued_from pid) (if c then None else m.servers n))) e
-
-      alive : (o : Option Server) → m.servers n ≡ o → is_server_of pid (m.servers n) ≡ false → ServerStep m (death pid m).machine n
-      alive None there e =
-          Stays (now false e ∙ (ap (λ o. option_map (with_senderless_from pid) (option_map (without_queued_from pid) o)) there ∙ sym there))
-      alive (Some server) there e =
-          Lists server (with_senderless_from pid (without_queued_from pid server)) there
-          (now false e ∙ ap (λ o. option_map (with_senderless_from pid) (option_map (without_queued_from pid) o)) there)
-          (LosesSender pid refl)
-
-      go : (b : Bool) → is_server_of pid (m.servers n) ≡ b → ServerStep m (death pid m).machine n
-      go true e = Ends (now true e)
-      go false e = alive (m.servers n) refl e
-
-  pub death_meant : AreMeant m (death pid m).answers
-  unfolding death servers_closed closed
-  death_meant = refused_meant m (is_sender_at (λ n. is_server_of pid (m.servers n)) m)
+use Rattle.message_laws.proofs.Serving.AtServerLemmas.{AreMeant, IsSendersAnswer, Serves, both_meant, none_meant, one_changes, one_meant, refused_meant}
+use Rattle.message_laws.proofs.Serving.ArrivalLemmas.{arrival_meant, arrival_step, death_meant, death_serves, not_waiting, one_waited, ready_waits_not, sender_waits}
 
 -- ---- rows
 

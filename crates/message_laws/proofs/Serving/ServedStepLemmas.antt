@@ -1,12 +1,11 @@
 -- What each step, event and end of a turn does at each server, and which messages its replies deliver.
-use Rattle.std.proofs.Common.{◌≡◌, ℕ, ◌+◌, ◌⊎◌, inl, inr, Bool, true, false, List, [], ◌∷◌, ◌++◌, map, Option, Some, None, refl, sym, ap, ◌∙◌, subst}
+use Rattle.std.proofs.Common.{◌≡◌, ℕ, ◌+◌, inl, Bool, true, false, List, [], ◌∷◌, ◌++◌, map, Option, Some, None, refl, sym, ap, ◌∙◌, subst}
 use Rattle.std.specs.Prelude.{◌==◌, ◌%◌, if◌then◌else◌, is_some, nat_eq, slice_index_or, unwrap_or}
 use Rattle.std.specs.List.{All}
 use Rattle.std.specs.Option.{option_map, option_map_or}
 use Rattle.std.proofs.lemmas.Bool.{and_parts, false≢true}
 use Rattle.std.proofs.lemmas.List.Elements.{All-append, All-cons, All-map, All-nil}
 use Rattle.std.proofs.lemmas.Option.{none-some, same_Some}
-use Rattle.xk_base.specs.declared.errors.XousError.{XousError}
 use Rattle.xk_base.specs.declared.ids.Number.{Number}
 use Rattle.xk_base.specs.declared.ids.Pid.{Pid}
 use Rattle.xk_base.specs.declared.ids.ThreadId.{ThreadId}
@@ -38,17 +37,17 @@ use Rattle.machine_model.specs.Stepping.Reservations.{unreserved}
 use Rattle.machine_model.specs.Stepping.Step.{Recorded, acted, acted_if_there, after, console_told, counted, ends_handler, executed, performed, record_of, step, step_by, step_by_if}
 use Rattle.machine_model.specs.Stepping.Timer.{timed}
 use Rattle.machine_model.proofs.Runs.KeptLemmas.{matched_at}
-use Rattle.machine_model.proofs.Runs.TimerLemmas.{pended_raised, timed_raised}
+use Rattle.machine_model.proofs.Runs.TimerLemmas.{timed_raised}
 use Rattle.machine_model.proofs.StepLemmas.{no_step}
 use Rattle.machine_laws.proofs.Stepping.StepKindLemmas.{Executes, HandlerEnds, StepKind, ThreadEnds, acted_as_executed, is_call, kind_of}
-use Rattle.machine_laws.proofs.Threading.ThreadMoveLemmas.{matched_reserved}
 use Rattle.machine_laws.proofs.Threading.ThreadStepLemmas.{actor_ready, then_acted, turned_to}
 use Rattle.call_effects.proofs.ServedLemmas.{OfServed}
 use Rattle.record_laws.proofs.Answering.DueLemmas.{timed_holds}
 use Rattle.message_laws.specs.Answered.{IsSenderAnswered, SendersAreAnswered}
-use Rattle.message_laws.specs.Serving.{AllAreServed, IsDelivery, IsMeant, IsServed, ServerStep, Stays}
+use Rattle.message_laws.specs.Serving.{AllAreServed, IsDelivery, ServerStep, Stays}
 use Rattle.message_laws.proofs.Serving.AtServerLemmas.{AreMeant, IsTold, Serves, answer_like, both_meant, call_turned, meant_like, none_meant, refused_meant, step_like, step_to}
-use Rattle.message_laws.proofs.Serving.RowLemmas.{death_serves, not_cursor, served_serves}
+use Rattle.message_laws.proofs.Serving.ArrivalLemmas.{death_serves}
+use Rattle.message_laws.proofs.Serving.RowLemmas.{not_cursor, served_serves}
 
 -- ---- what is told
 

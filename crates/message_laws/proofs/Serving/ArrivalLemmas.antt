@@ -1,0 +1,140 @@
+-- Who waits for an answer, what arrives at a server, and what a death leaves of it.
+use Rattle.std.proofs.Common.{◌≡◌, ℕ, ◌<◌, inr, Bool, true, false, [], get_or, length, Option, Some, None, refl, sym, ap, ◌∙◌}
+use Rattle.std.specs.Prelude.{if◌then◌else◌}
+use Rattle.std.specs.Option.{option_map, option_map_or}
+use Rattle.std.proofs.lemmas.Bool.{and_from, eq-eqb, eqb-true, false≢true}
+use Rattle.std.proofs.lemmas.Option.{same_Some}
+use Rattle.xk_base.specs.declared.ids.Number.{Number}
+use Rattle.xk_base.specs.declared.ids.Pid.{Pid}
+use Rattle.xk_base.specs.declared.ids.Serial.{Serial}
+use Rattle.xk_base.specs.declared.ids.ThreadId.{ThreadId}
+use Rattle.xk_base.specs.declared.messages.Message.{Message}
+use Rattle.xk_base.specs.Calls.Replies.{message_words}
+use Rattle.xk_base.specs.Tables.Circle.{same_thread}
+use Rattle.machine_model.specs.Ending.Closing.{closed, is_sender_at, senders_held_gone, senders_queued_gone, servers_closed, with_senderless_from, without_queued_from}
+use Rattle.machine_model.specs.Ending.Ends.{death, forgotten}
+use Rattle.machine_model.specs.Messaging.Messages.{is_of_number, is_sent_by}
+use Rattle.machine_model.specs.Messaging.Receivers.{receiver}
+use Rattle.machine_model.specs.Runs.Matched.{IsServerAwaited, Matched, is_sent_as, is_waiting_for, waits_for}
+use Rattle.machine_model.specs.State.Machine.{Idle, Joining, Machine, Ready, Receiving, Server, Thread, ThreadState, Waiting}
+use Rattle.machine_model.specs.State.Servers.{is_server_of, messages_of}
+use Rattle.machine_model.specs.Messaging.MessageCounts.{HasIf, count_at}
+use Rattle.machine_model.proofs.Matching.CountLemmas.{all_right, none_pass}
+use Rattle.machine_laws.proofs.Threading.ThreadAnswerLemmas.{same_thread-self}
+use Rattle.machine_laws.proofs.Returning.GivenBackLemmas.{found_at}
+use Rattle.machine_laws.proofs.Sending.SentReceiverLemmas.{receiver_receives}
+use Rattle.call_effects.specs.Effects.{arriving, at_server}
+use Rattle.call_effects.specs.Rows.MessageRows.{arrival_answers}
+use Rattle.message_laws.specs.Serving.{Arrives, AtOnce, Ends, ListStep, Lists, LosesSender, Queues, Receives, ServerStep, Stays}
+use Rattle.message_laws.proofs.Following.ReturnLemmas.{IsHolder}
+use Rattle.message_laws.proofs.Serving.AtServerLemmas.{AreMeant, none_meant, one_meant, refused_meant}
+
+-- ---- who waits for an answer
+
+-- a thread in another state waits for none
+pub not_waiting : (m : Machine) (id : ThreadId) (t : Thread) → m.threads id ≡ Some t → ((number : Number) → is_waiting_for number t.state ≡ false)
+    → (number : Number) → waits_for m.threads id number ≡ true → ⊥
+not_waiting m id t there none number waits =
+    false≢true (sym (none number) ∙ (sym (ap (λ o. option_map_or (λ (x : Thread). is_waiting_for number x.state) o false) there) ∙ waits))
+
+pub ready_waits_not : (s : ThreadState) → s ≡ Ready → (number : Number) → is_waiting_for number s ≡ false
+ready_waits_not s e number = ap (is_waiting_for number) e
+
+pub receiving_waits_not : (serial : Serial) (s : ThreadState) → s ≡ Receiving serial → (number : Number) → is_waiting_for number s ≡ false
+receiving_waits_not serial s e number = ap (is_waiting_for number) e
+
+-- a thread waits for one message
+pub one_waited : (o : Option Thread) (a b : Number) → option_map_or (λ (x : Thread). is_waiting_for a x.state) o false ≡ true
+    → option_map_or (λ (x : Thread). is_waiting_for b x.state) o false ≡ true → a.0 ≡ b.0
+one_waited None a b p q = absurd (false≢true p)
+one_waited (Some t) a b p q = go t.state p q
+  where
+    go : (s : ThreadState) → is_waiting_for a s ≡ true → is_waiting_for b s ≡ true → a.0 ≡ b.0
+    go Ready p q = absurd (false≢true p)
+    go (Receiving serial) p q = absurd (false≢true p)
+    go (Waiting other) p q = sym (eqb-true other.0 a.0 p) ∙ eqb-true other.0 b.0 q
+    go (Joining tid) p q = absurd (false≢true p)
+    go Idle p q = absurd (false≢true p)
+
+-- the sender of a held message waits for the answer to it
+pub sender_waits : (m : Machine) → Matched m → (test : Message → Bool) (x : Message) → IsHolder m test x → (who : ThreadId) → x.sender ≡ Some who
+    → waits_for m.threads who x.number ≡ true
+sender_waits m h test x at who sender = go (waits_for m.threads who x.number) refl (h.body.senders.senders who x.number)
+  where
+    place : (j : ℕ) × (d : Message) × (j < length at.server.held) × (get_or at.server.held j d ≡ x) × (test x ≡ true)
+    place = found_at test at.server.held x at.found
+
+    is_its : is_sent_as who x.number x ≡ true
+    is_its =
+        and_from (is_of_number x.number x) (is_sent_by who x) (eq-eqb x.number.0 x.number.0 refl)
+        (ap (λ o. option_map_or (same_thread who) o false) sender ∙ same_thread-self who)
+
+    go : (b : Bool) → waits_for m.threads who x.number ≡ b → HasIf b m.servers (is_sent_as who x.number) → b ≡ true
+    go true e has = refl
+    go false e has =
+        absurd (false≢true
+        (sym (all_right (λ y. is_sent_as who x.number y ≡ false) at.server.queued at.server.held
+        (none_pass (is_sent_as who x.number) (messages_of at.server) (sym (ap (count_at (is_sent_as who x.number)) at.there) ∙ has at.serial.0))
+        place.0 place.1 place.2)
+        ∙ (ap (is_sent_as who x.number) place.3 ∙ is_its)))
+
+-- ---- an arrival
+
+-- a thread that waits at a server finds no message queued there
+pub nothing_queued : (m : Machine) → Matched m → (serial : Serial) (who : ThreadId) → receiver m serial ≡ Some who
+    → (server : Server) × (m.servers serial.0 ≡ Some server) × (server.queued ≡ [])
+nothing_queued m h serial who e =
+    let at = receiver_receives m serial who e in
+    let awaited : IsServerAwaited m.servers who.pid serial = h.body.receivers who at.0 serial at.1 at.2 in
+    (awaited.server, awaited.live, awaited.empty)
+
+module _ (m : Machine) (h : Matched m) (serial : Serial) (x : Message) (arrives : Arrives m x) where
+  pub arrival_step : (server : Server) → m.servers serial.0 ≡ Some server → ListStep m server (at_server (arriving (receiver m serial) x) server)
+  arrival_step server there = go (receiver m serial) refl
+    where
+      go : (o : Option ThreadId) → receiver m serial ≡ o → ListStep m server (at_server (arriving o x) server)
+      go None e = Queues x arrives refl
+      go (Some who) e =
+          let at = nothing_queued m h serial who e in
+          Receives x arrives (ap (λ (s : Server). s.queued) (same_Some server at.0 (sym there ∙ at.1)) ∙ at.2) refl
+
+  pub arrival_meant : AreMeant m (arrival_answers (receiver m serial) x)
+  arrival_meant = go (receiver m serial) refl
+    where
+      go : (o : Option ThreadId) → receiver m serial ≡ o → AreMeant m (arrival_answers o x)
+      go None e = none_meant m
+      go (Some who) e =
+          let at = nothing_queued m h serial who e in
+          let thread = receiver_receives m serial who e in
+          one_meant m who (message_words x) (
+            inr (x, AtOnce serial.0 at.0 at.1 at.2 arrives, refl),
+            λ number waits. absurd (not_waiting m who thread.0 thread.1 (receiving_waits_not serial thread.0.state thread.2) number waits),
+          )
+
+-- ---- ends
+
+module _ (m : Machine) (pid : Pid) where
+  pub death_serves : (n : ℕ) → ServerStep m (death pid m).machine n
+  unfolding death servers_closed closed senders_queued_gone senders_held_gone forgotten
+  death_serves n = go (is_server_of pid (m.servers n)) refl
+    where
+      now : (b : Bool) → is_server_of pid (m.servers n) ≡ b
+          → (death pid m).machine.servers n ≡ option_map (with_senderless_from pid) (option_map (without_queued_from pid) (if b then None else m.servers n))
+      now b e =
+          ap (λ c. option_map (with_senderless_from pid) (option_map (without_queued_from pid) (if c then None else m.servers n))) e
+
+      alive : (o : Option Server) → m.servers n ≡ o → is_server_of pid (m.servers n) ≡ false → ServerStep m (death pid m).machine n
+      alive None there e =
+          Stays (now false e ∙ (ap (λ o. option_map (with_senderless_from pid) (option_map (without_queued_from pid) o)) there ∙ sym there))
+      alive (Some server) there e =
+          Lists server (with_senderless_from pid (without_queued_from pid server)) there
+          (now false e ∙ ap (λ o. option_map (with_senderless_from pid) (option_map (without_queued_from pid) o)) there)
+          (LosesSender pid refl)
+
+      go : (b : Bool) → is_server_of pid (m.servers n) ≡ b → ServerStep m (death pid m).machine n
+      go true e = Ends (now true e)
+      go false e = alive (m.servers n) refl e
+
+  pub death_meant : AreMeant m (death pid m).answers
+  unfolding death servers_closed closed
+  death_meant = refused_meant m (is_sender_at (λ n. is_server_of pid (m.servers n)) m)
