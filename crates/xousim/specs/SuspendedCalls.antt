@@ -2,9 +2,10 @@
 use Rattle.std.specs.Prelude.{◌≡◌, ◌≤◌, ℕ, ◌+◌, false, List, ◌++◌, length, IfSome, Option, Some}
 use Rattle.kernel_args.specs.declared.args.Args.{Args}
 use Rattle.boot_plan.specs.Slots.{slots_used}
-use Rattle.event_text.specs.Lines.{lines_of, whole_lines}
+use Rattle.event_text.specs.Joined.{CanJoin}
+use Rattle.event_text.specs.Lines.{lines_of}
 use Rattle.machine_model.specs.State.Machine.{Machine}
-use Rattle.xk_base.specs.declared.limits.TheConstants.{EVENT_FILE_LIMIT, SLOT_LIMIT}
+use Rattle.xk_base.specs.declared.limits.TheConstants.{SLOT_LIMIT}
 use Rattle.xk_ports.specs.Told.{Grows}
 use Rattle.event_player.specs.History.{run_of}
 use Rattle.event_player.specs.Telling.{told}
@@ -51,12 +52,6 @@ pub record GoesOn (many : ℕ) (state events : List ℕ) (resume : Resume) (call
   pub whole : is_cut_short call.status ≡ false
   pub ends : EndsResume resume call
 
--- The events before and after, as two event files and as one: the first ends with a line feed or is empty, and together they aren't longer
--- than an event file may be.
-pub record AreTwoFiles (before after : List ℕ) : Type 0 where
-  pub whole : whole_lines before ≡ before
-  pub short : length (before ++ after) ≤ EVENT_FILE_LIMIT
-
 -- a run in two calls and in one: its setup, the image's arguments, the event files before and after, the state file, and the calls
 pub record TwoPartRun : Type 0 where
   pub setup : Setup
@@ -76,7 +71,7 @@ pub record TwoPartRun : Type 0 where
 pub record IsOneRun (run : TwoPartRun) : Type 0 where
   pub few : IfSome run.setup.asked (λ n. n ≤ SLOT_LIMIT)
   pub sound : IsSoundImage run.setup.image run.setup.asked run.args
-  pub files : AreTwoFiles run.before run.after
+  pub files : CanJoin run.before run.after
   pub suspends : Suspends run.setup run.before run.state run.suspend run.first
   pub goes_on : GoesOn (slots_used run.args run.setup.asked) run.state run.after run.resume run.second
   pub plays : PlaysOn run.setup (run.before ++ run.after) run.play run.whole
