@@ -35,7 +35,8 @@ pub fn swapping_is_invisible()
 {}
 
 /// Two calls of one command, `trace`, `run` or `ledger`, that play the same events on two such images end with one
-/// status and write the same. Neither is ended by a fault outside or want of memory, and both runs are trusted.
+/// status and write the same. Neither is ended by a fault outside or want of memory, and what the pages of both runs
+/// hold is known.
 pub fn split_calls_end_alike()
     ensures { (one other : Setup) (events : List ℕ) (play twin : Play) (call answer : Call) → SplitOneCapacity one other
         → PlaysOn one events play call → PlaysOn other events twin answer
