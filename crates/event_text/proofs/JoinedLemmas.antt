@@ -89,12 +89,15 @@ unfolding total
 total_lines [] = ap total lines_nothing
 total_lines (b ∷ xs) = go (total_lines xs) (b == 10) refl
   where
-    go : total (lines_of xs) ≡ length xs → (t : Bool) → (b == 10) ≡ t → total (lines_of (b ∷ xs)) ≡ 1 + length xs
+    go : total (lines_of xs) ≡ length xs → (t : Bool) → (b == 10) ≡ t → total (lines_of (b ∷ xs)) ≡ length (b ∷ xs)
     go rest true e =
         let ten : b ≡ 10 = grind (arith, nat_tests) in
         let all : total (lines_of (10 ∷ xs)) ≡ 1 + total (lines_of xs) = ap total (lines_feed xs) in
-        ap (λ (c : ℕ). total (lines_of (c ∷ xs))) ten ∙ (all ∙ ap (λ n. 1 + n) rest)
-    go rest false e = ap total (lines_other b xs e) ∙ (total_onto b (lines_of xs) ∙ ap (λ n. 1 + n) rest)
+        let here : total (lines_of (b ∷ xs)) ≡ total (lines_of (10 ∷ xs)) = ap (λ (c : ℕ). total (lines_of (c ∷ xs))) ten in
+        omega arith
+    go rest false e =
+        let all : total (lines_of (b ∷ xs)) ≡ 1 + total (lines_of xs) = ap total (lines_other b xs e) ∙ total_onto b (lines_of xs) in
+        omega arith
 
 -- ---- what they ask for
 

@@ -5,3 +5,4 @@ pub mod Output
 pub mod ReserverLemmas
 pub mod ResumedLemmas
 pub mod Splitting
+pub mod Suspended

@@ -30,7 +30,7 @@ one_state : (file : List ℕ) (one other : State) → IsResumable file one → I
 one_state file one other a b = spelled_once file one other a.spelled b.spelled
 
 -- a run goes on from one machine
-one_machine : (file : List ℕ) (slots : ℕ) (one other : Machine) → Restores file slots one → Restores file slots other → one ≡ other
+pub one_machine : (file : List ℕ) (slots : ℕ) (one other : Machine) → Restores file slots one → Restores file slots other → one ≡ other
 one_machine file slots one other a b =
     a.resumed ∙ (ap (machine_of file) (one_state file a.state b.state a.sound.resumable b.sound.resumable) ∙ sym b.resumed)
 
@@ -73,7 +73,7 @@ faults_agree file name slots bytes two one other read faulty read_two faulty_two
     one_fault bytes slots one other faulty (subst P (same_bytes file name two bytes read_two read) faulty_two)
 
 -- a file from which a run goes on has none
-restored_no_fault : (file : List ℕ) (slots : ℕ) (machine : Machine) (fault : ArgFault) → Restores file slots machine → IsStateFault file slots fault → ⊥
+pub restored_no_fault : (file : List ℕ) (slots : ℕ) (machine : Machine) (fault : ArgFault) → Restores file slots machine → IsStateFault file slots fault → ⊥
 restored_no_fault file slots machine fault r = go (nat_lt STATE_LIMIT (length file)) short
   where
     short : nat_lt STATE_LIMIT (length file) ≡ false
