@@ -48,7 +48,7 @@ use Rattle.xousim.specs.Outcome.Resumes.{EndsResume, EndsResumed, limit_from, re
 use Rattle.xousim.specs.Outcome.Sides.{Call, HostRose, StoreSide}
 use Rattle.xousim.specs.Outcome.Starts.{Stops, StopsIn, booted_of}
 use Rattle.event_player.specs.Rooms.{Room}
-use Rattle.xousim.specs.Outcome.States.{RefusesState}
+use Rattle.xousim.specs.Outcome.States.{RefusesState, room_from}
 use Rattle.xousim.specs.Outcome.Suspends.{EndsSaved, EndsSuspend, Saves}
 use Rattle.xousim.specs.SplitCalls.{PlaysOn, is_cut_short}
 use Rattle.xousim.specs.Splits.{Setup}
@@ -119,8 +119,8 @@ module _ (setup : Setup) (events state : List ℕ) (suspend : Suspend) (call : C
 -- ---- a run goes on from its file
 
 -- a history keeps the size of the machine
-same_size : (setup : Setup) (limit : ℕ) (machine : Machine) (events : List ℕ) → IsSameSize machine (run_of limit machine events).machine
-same_size setup limit machine events =
+same_size : (limit : ℕ) (machine : Machine) (events : List ℕ) → IsSameSize machine (run_of limit machine events).machine
+same_size limit machine events =
     let es = (input_of events).events in
     subst (IsSameSize machine) (history_last es limit machine)
     (moments_keep (IsSameSize machine) kept es limit machine (refl, refl) (length (moments_of es limit machine)))
@@ -128,38 +128,47 @@ same_size setup limit machine events =
     kept : (cause : Cause) (m : Machine) → IsSameSize machine m → IsSameSize machine (caused cause m)
     kept cause m h = let s = cause_size cause m in (s.0 ∙ h.0, s.1 ∙ h.1)
 
-module _ (setup : Setup) (args : Args) (few : IfSome setup.asked (λ n. n ≤ SLOT_LIMIT)) (sound : IsSoundImage setup.image setup.asked args) where
-  plan : BootPlan
-  plan = plan_of args setup.asked
+-- the machine has room for as many pages as so many frames and slots have, and its frames are enough for the tables
+record HasRoom (frames slots : ℕ) (m : Machine) : Type 0 where
+  pages : m.capacity ≡ capacity frames m.processes slots
+  tables : table_frames m.processes + 2 ≤ frames
 
+later_room : (frames slots : ℕ) (one later : Machine) → IsSameSize one later → HasRoom frames slots one → HasRoom frames slots later
+later_room frames slots one later same room = record {
+  pages = same.0 ∙ (room.pages ∙ ap (λ n. capacity frames n slots) (sym same.1));
+  tables = subst (λ n. table_frames n + 2 ≤ frames) (sym same.1) room.tables;
+}
+
+-- so its pages can be split into them
+fewer_slots : (frames tables slots pages : ℕ) → pages ≡ frames - tables - 1 + slots → tables + 2 ≤ frames → slots < pages
+fewer_slots frames tables slots pages is enough = omega arith
+
+few_frames : (frames tables slots pages : ℕ) → pages ≡ frames - tables - 1 + slots → tables + 2 ≤ frames → frames ≤ 16384
+    → tables + 1 + (pages - slots) ≤ 16384
+few_frames frames tables slots pages is enough few = omega arith
+
+module _ (setup : Setup) (args : Args) (few : IfSome setup.asked (λ n. n ≤ SLOT_LIMIT)) (sound : IsSoundImage setup.image setup.asked args) where
   lawful : IsLawfulPlan (length setup.image) (plan_of args setup.asked)
   lawful = lawful_plan args setup.image setup.asked sound.spelled.sound few (no_plan_fault setup.image setup.asked args sound.spelled sound.no_fault)
 
-  -- how many pages and processes the machine has
-  record HasRoom (m : Machine) : Type 0 where
-    pages : m.capacity ≡ capacity (args.ram_size / 4096) m.processes (slots_used args setup.asked)
-    tables : table_frames m.processes + 2 ≤ args.ram_size / 4096
-
-  start_room : HasRoom (start (plan_of args setup.asked) setup.image)
+  start_room : HasRoom (args.ram_size / 4096) (slots_used args setup.asked) (start (plan_of args setup.asked) setup.image)
   unfolding start
   start_room = record { pages = refl; tables = lawful.tables }
 
-  later_room : (one later : Machine) → IsSameSize one later → HasRoom one → HasRoom later
-  later_room one later same room = record {
-    pages = same.0 ∙ (room.pages ∙ ap (λ n. capacity (args.ram_size / 4096) n (slots_used args setup.asked)) (sym same.1));
-    tables = subst (λ n. table_frames n + 2 ≤ args.ram_size / 4096) (sym same.1) room.tables;
-  }
-
-  can_split : (m : Machine) (state : State) (file : List ℕ) → machine_of file state ≡ m → HasRoom m → CanSplit state (slots_used args setup.asked)
+  can_split : (m : Machine) (state : State) (file : List ℕ) → machine_of file state ≡ m → HasRoom (args.ram_size / 4096) (slots_used args setup.asked) m
+      → CanSplit state (slots_used args setup.asked)
   can_split m state file same room =
+      let frames = args.ram_size / 4096 in
+      let slots = slots_used args setup.asked in
       let pages : state.cap ≡ m.capacity = ap (λ (x : Machine). x.capacity) same in
-      let processes : state.n ≡ m.processes = ap (λ (x : Machine). x.processes) same in
-      let has : m.capacity ≡ capacity (args.ram_size / 4096) m.processes (slots_used args setup.asked) = room.pages in
-      let tables : table_frames m.processes + 2 ≤ args.ram_size / 4096 = room.tables in
-      let frames : args.ram_size / 4096 ≤ 16384 = lawful.frames in
-      let most : slots_used args setup.asked ≤ 16384 = lawful.slots in
-      let same_tables : table_frames state.n ≡ table_frames m.processes = ap table_frames processes in
-      record { fewer = omega arith; frames = omega arith; few = most }
+      let processes : m.processes ≡ state.n = ap (λ (x : Machine). x.processes) (sym same) in
+      let has : state.cap ≡ capacity frames state.n slots = pages ∙ (room.pages ∙ ap (λ n. capacity frames n slots) processes) in
+      let tables : table_frames state.n + 2 ≤ frames = subst (λ n. table_frames n + 2 ≤ frames) processes room.tables in
+      record {
+        fewer = fewer_slots frames (table_frames state.n) slots state.cap has tables;
+        frames = few_frames frames (table_frames state.n) slots state.cap has tables lawful.frames;
+        few = lawful.slots;
+      }
 
   file_short : (m : Machine) → IsSpellable m → length (saved_bytes m) ≤ STATE_LIMIT
   file_short m is =
@@ -168,7 +177,7 @@ module _ (setup : Setup) (args : Args) (few : IfSome setup.asked (λ n. n ≤ SL
       let processes = is.matched.body.processes.few in
       omega (arith, fits, room, processes)
 
-  restores : (m : Machine) → IsSpellable m → HasRoom m → Restores (saved_bytes m) (slots_used args setup.asked) m
+  restores : (m : Machine) → IsSpellable m → HasRoom (args.ram_size / 4096) (slots_used args setup.asked) m → Restores (saved_bytes m) (slots_used args setup.asked) m
   restores m is room =
       let spells : SpellsMachine (saved_bytes m) m = saved_spelled m is.matched is.saveable in
       record {
@@ -243,16 +252,13 @@ module _ (many : ℕ) (state events : List ℕ) (resume : Resume) (call : Call) 
 
   went_on : EndsResume resume call → WentOn machine events (limit_from resume.limit machine) call
   went_on (inl unread) = absurd (not_unread call.status unread.refused g.whole)
-  went_on (inr (inl unresumed)) = absurd (not_stopped_in _ resume.slots None unresumed.machine call.store call.status unresumed.stopped g.whole)
+  went_on (inr (inl unresumed)) = absurd (not_stopped_in (room_from unresumed.machine resume.slots) resume.slots None unresumed.machine call.store call.status unresumed.stopped g.whole)
   went_on (inr (inr (inl unpicked))) = absurd (not_whole (sym (ap is_cut_short unpicked.ended) ∙ g.whole))
   went_on (inr (inr (inr e))) = resumed_out e
 
 -- ---- all three
 
 module _ (run : TwoPartRun) (is : IsOneRun run) where
-  abbrev setup : Setup
-  setup = run.setup
-
   saved : SavedOut run.setup run.before run.state run.play.limit
   saved =
       subst (SavedOut run.setup run.before run.state) is.suspend_limit
@@ -273,10 +279,12 @@ module _ (run : TwoPartRun) (is : IsOneRun run) where
   abbrev last : Machine
   last = (run_of run.play.limit saved.machine run.before).machine
 
-  room : HasRoom run.setup run.args is.few is.sound last
+  room : HasRoom (run.args.ram_size / 4096) (slots_used run.args run.setup.asked) last
   room =
-      later_room run.setup run.args is.few is.sound saved.machine last (same_size run.setup run.play.limit saved.machine run.before)
-      (subst (HasRoom run.setup run.args is.few is.sound) (sym first) (start_room run.setup run.args is.few is.sound))
+      let frames = run.args.ram_size / 4096 in
+      let slots = slots_used run.args run.setup.asked in
+      later_room frames slots saved.machine last (same_size run.play.limit saved.machine run.before)
+      (subst (HasRoom frames slots) (sym first) (start_room run.setup run.args is.few is.sound))
 
   file : Restores run.state (slots_used run.args run.setup.asked) last
   file =
