@@ -45,7 +45,6 @@ pub fn resumed_run_goes_on()
 
 /// A machine that an image of bytes boots, or that a state file of bytes restores, begins so that each state of its histories up to
 /// 4,000,000,000 steps can be written as state bytes (`every_state_is_spellable` of `start_laws`).
-#[tactic(auto, using(crate::proofs::BegunLemmas::booted_begins, crate::proofs::BegunLemmas::restored_begins))]
 pub fn runs_begin()
     ensures booted { (image : List ℕ) (asked : Option ℕ) (machine : Machine) → IfSome asked (λ n. n ≤ SLOT_LIMIT)
         → All (λ b. b < 256) image → Boots image asked machine → Begins machine }
@@ -55,7 +54,6 @@ pub fn runs_begin()
 
 /// So such a run that is suspended goes on as if it had not been, up to a limit of 4,000,000,000 steps at most: a state is read of the
 /// bytes of the state to which events lead, it is that one, and the limit stays. Nothing is asked of the numbers of any state.
-#[tactic(auto, using(crate::proofs::BegunLemmas::begun_is_read, crate::proofs::BegunLemmas::begun_goes_on, crate::proofs::BegunLemmas::begun_limit))]
 pub fn begun_run_goes_on()
     ensures read { (before : List Event) (limit : ℕ) (start : Machine) → Begins start → start.steps ≤ limit → limit ≤ 4000000000
         → let last = (history before limit start).machine in (state : State) × IsResumable (saved_bytes last) state }

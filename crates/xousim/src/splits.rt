@@ -15,7 +15,6 @@ ghost use Rattle.event_player.specs.Telling.{output};
 ghost use Rattle.xousim.specs.Words.{Play};
 
 /// Two images that differ in nothing but RAM start, RAM size and the check number over them load the same.
-#[tactic(auto, using(crate::proofs::Splitting::SplitLemmas::ram_loads_alike))]
 pub fn ram_is_not_loaded()
     ensures { (image other : List ℕ) (args others : Args) → DifferInRam image other → Spells image args → Spells other others
         → LoadAlike image other args others }
