@@ -67,7 +67,6 @@ pub fn begun_run_goes_on()
 /// A call of `suspend` that ends Done writes a file that isn't too long for a state file, and a call of `resume` that plays later events on
 /// it, with the slots of the run and up to the same step limit, ends as one call of `trace` does that plays all events: with its status, in
 /// which lines are counted on. `trace` writes what is told of the events before, and then what `resume` wrote.
-#[tactic(auto, using(crate::proofs::Suspended::CallLemmas::ends_as_one))]
 pub fn suspended_calls_end_as_one()
     ensures { (run : TwoPartRun) → IsOneRun run → EndAsOne run }
 {}
