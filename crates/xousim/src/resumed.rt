@@ -61,7 +61,8 @@ pub fn begun_run_goes_on()
         → start.steps ≤ limit → limit ≤ 4000000000 → IsCut before limit start file state
         → IsJoined (history (before ++ after) limit start) (history before limit start) (history after limit (machine_of file state)) }
     ensures limit { (before : List Event) (limit : ℕ) (start : Machine) (file : List ℕ) (state : State) → Begins start
-        → start.steps ≤ limit → limit ≤ 4000000000 → IsCut before limit start file state → limit_from limit (machine_of file state) ≡ limit }
+        → start.steps ≤ limit → limit ≤ 4000000000 → IsCut before limit start file state
+        → limit_from limit (machine_of file state) ≡ limit }
 {}
 
 /// A call of `suspend` that ends Done writes a file that isn't too long for a state file, and a call of `resume` that plays later events on
