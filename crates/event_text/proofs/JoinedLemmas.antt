@@ -1,21 +1,20 @@
 -- Two event files behind one another ask for what each asks for: the events of both in order, and the lines of the second counted on.
-use Rattle.std.proofs.Common.{◌≡◌, ◌≢◌, ◌∙◌, ap, sym, refl, ℕ, ◌+◌, ◌<◌, ◌≤◌, ◌==◌, ◌&&◌, ◌||◌, nat_lt, Bool, true, false, List, [], ◌∷◌, ◌++◌, drop, length, Option, Some, None, arith}
+use Rattle.std.proofs.Common.{◌≡◌, ◌≢◌, ◌∙◌, ap, sym, refl, ℕ, ◌+◌, ◌≤◌, ◌==◌, ◌&&◌, ◌||◌, nat_lt, Bool, true, false, List, [], ◌∷◌, ◌++◌, drop, length, None, arith}
 use Rattle.std.specs.Prelude.{if◌then◌else◌}
 use Rattle.std.specs.List.{list_any, onto_first}
-use Rattle.std.specs.Option.{option_map}
 use Rattle.std.proofs.lemmas.Bool.Decides.{nat_tests}
 use Rattle.std.proofs.lemmas.List.{length-append}
 use Rattle.std.proofs.lemmas.Option.{none-some}
 use Rattle.xk_base.specs.declared.limits.TheConstants.{EVENT_FILE_LIMIT}
 use Rattle.event_text.specs.declared.event.Line.{Line}
 use Rattle.event_text.specs.declared.event.Line.TheVariants as kind
-use Rattle.event_text.specs.EventFile.{Input, after_line, input_from, input_of, is_far, is_long, line_at, line_of_text}
+use Rattle.event_text.specs.EventFile.{Input, after_line, input_from, is_long, line_at, line_of_text}
 use Rattle.event_text.specs.Held.{first_line}
 use Rattle.event_text.specs.Lines.{lines_of, text_of, whole_lines}
 use Rattle.event_text.specs.Joined.{JoinedAsk, counted_on}
 use Rattle.event_text.specs.Plays.{with_events}
 use Rattle.event_text.proofs.HeldLemmas.{first_feed, first_lines, first_other}
-use Rattle.event_text.proofs.PlayLemmas.{input_first, lines_feed, lines_nothing, lines_other}
+use Rattle.event_text.proofs.PlayLemmas.{lines_feed, lines_nothing, lines_other}
 
 -- ---- lines
 

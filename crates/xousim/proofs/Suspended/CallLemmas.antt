@@ -1,27 +1,25 @@
 -- A run that is suspended in one call and goes on in another ends as it does in one call.
-use Rattle.std.proofs.Common.{◌≡◌, ◌∙◌, ◌≤◌, ◌<◌, ap, sym, subst, refl, inl, inr, ℕ, ◌+◌, ◌-◌, ◌*◌, ◌/◌, Bool, true, false, List, [], ◌++◌, drop, length, Option, Some, None, arith}
+use Rattle.std.proofs.Common.{◌≡◌, ◌∙◌, ◌≤◌, ◌<◌, ap, sym, subst, refl, inl, inr, ℕ, ◌+◌, ◌-◌, ◌/◌, false, List, ◌++◌, drop, length, Option, Some, None, arith}
 use Rattle.std.specs.Prelude.{IfSome}
-use Rattle.std.proofs.lemmas.List.{drop_at, length-map}
+use Rattle.std.proofs.lemmas.List.{drop_at}
 use Rattle.std.proofs.lemmas.Option.{same_Some}
 use Rattle.kernel_args.specs.declared.args.Args.{Args}
 use Rattle.kernel_args.specs.declared.faults.ArgFault.{ArgFault}
 use Rattle.boot_plan.specs.Capacity.{capacity}
-use Rattle.boot_plan.specs.FirstPages.{plan_of, process_plan}
+use Rattle.boot_plan.specs.FirstPages.{plan_of}
 use Rattle.boot_plan.specs.Lawful.{IsLawfulPlan}
 use Rattle.boot_plan.specs.Slots.{slots_used}
-use Rattle.boot_plan.specs.declared.plans.BootPlan.{BootPlan}
 use Rattle.boot_plan.proofs.LawfulPlanLemmas.{lawful_plan}
 use Rattle.event_text.specs.Lines.{lines_of}
 use Rattle.host_io.specs.Reading.{IsFile}
 use Rattle.machine_model.specs.Runs.Matched.{Matched}
 use Rattle.machine_model.specs.Runs.Moments.{Cause, caused}
 use Rattle.machine_model.specs.State.Machine.{Machine}
-use Rattle.machine_history.specs.History.{history}
 use Rattle.machine_history.proofs.Histories.LimitLemmas.{history_within}
 use Rattle.machine_history.proofs.Histories.MomentLemmas.{history_last, moments_keep}
 use Rattle.machine_history.specs.HistoryMoments.{moments_of}
 use Rattle.event_text.specs.EventFile.{input_of}
-use Rattle.resume_path.specs.Resumable.{CanSplit, IsResumable, resumed_frames}
+use Rattle.resume_path.specs.Resumable.{CanSplit}
 use Rattle.saveable_laws.specs.Keeping.{IsSameSize}
 use Rattle.saveable_laws.proofs.SizeLemmas.{cause_size}
 use Rattle.state_rows.specs.declared.state.State.{State}
@@ -34,11 +32,10 @@ use Rattle.xk_base.specs.Numbers.Limits.{table_frames}
 use Rattle.xk_base.specs.declared.limits.TheConstants.{SLOT_LIMIT}
 use Rattle.xk_kernel.specs.Start.{start}
 use Rattle.xk_ports.specs.Told.{Grows}
-use Rattle.event_player.specs.declared.ending.Ending.{Ending}
 use Rattle.event_player.specs.declared.ending.Ending.TheVariants.{Played}
 use Rattle.event_player.specs.declared.telling.Telling.{Telling}
 use Rattle.event_player.specs.declared.telling.Telling.TheVariants.{Trace}
-use Rattle.event_player.specs.History.{History, run_of}
+use Rattle.event_player.specs.History.{run_of}
 use Rattle.event_player.specs.Telling.{output, told}
 use Rattle.xousim.specs.declared.commands.states.TheConstants.{STATE_LIMIT}
 use Rattle.xousim.specs.declared.status.Status.{Status}
@@ -50,11 +47,11 @@ use Rattle.xousim.specs.Outcome.Starts.{Stops, StopsIn, booted_of}
 use Rattle.event_player.specs.Rooms.{Room}
 use Rattle.xousim.specs.Outcome.States.{RefusesState, room_from}
 use Rattle.xousim.specs.Outcome.Suspends.{EndsSaved, EndsSuspend, Saves}
-use Rattle.xousim.specs.SplitCalls.{PlaysOn, is_cut_short}
+use Rattle.xousim.specs.SplitCalls.{is_cut_short}
 use Rattle.xousim.specs.Splits.{Setup}
 use Rattle.xousim.specs.StateFiles.{IsStateFault, Restores}
 use Rattle.xousim.specs.SuspendedCalls.{EndAsOne, GoesOn, IsOneRun, Suspends, TwoPartRun, behind_lines}
-use Rattle.xousim.specs.Words.{Play, Resume, Suspend}
+use Rattle.xousim.specs.Words.{Resume, Suspend}
 use Rattle.xousim.proofs.Images.MatchedLemmas.{no_plan_fault}
 use Rattle.xousim.proofs.Outcome.ResumeVerdictLemmas.{one_machine, restored_no_fault}
 use Rattle.xousim.proofs.ResumedLemmas.{within_limit}

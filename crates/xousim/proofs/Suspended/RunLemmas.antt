@@ -1,7 +1,6 @@
 -- The run over two event files behind one another is that over the first, followed by that over the second from the last state of the first.
-use Rattle.std.proofs.Common.{◌≡◌, ◌∙◌, ap, sym, subst, refl, ℕ, ◌+◌, Bool, true, false, List, [], ◌++◌, length, Option, Some, None, append_assoc}
+use Rattle.std.proofs.Common.{◌≡◌, ◌∙◌, ap, sym, subst, refl, ℕ, ◌+◌, Bool, true, false, List, ◌++◌, length, Option, Some, None, append_assoc}
 use Rattle.std.specs.Prelude.{if◌then◌else◌}
-use Rattle.std.specs.List.{flat_map}
 use Rattle.std.specs.Option.{option_map}
 use Rattle.std.proofs.lemmas.Grind.{flat_map-append}
 use Rattle.event_text.specs.EventFile.{Input, input_of}
@@ -18,7 +17,6 @@ use Rattle.event_player.specs.declared.ending.Ending.TheVariants.{Played, LimitM
 use Rattle.event_player.specs.declared.telling.Telling.TheVariants.{Trace}
 use Rattle.event_player.specs.History.{History, end_of, history_of, run_of}
 use Rattle.event_player.specs.Telling.{closing, output, told, told_of}
-use Rattle.xousim.specs.declared.status.Status.{Status}
 use Rattle.xousim.specs.Resumed.{IsJoined}
 use Rattle.xousim.specs.SuspendedCalls.{behind_lines}
 use Rattle.xousim.proofs.ResumedLemmas.{unmet_joined}
