@@ -12,7 +12,7 @@ ghost use Rattle.phys_pages.specs.Owners.{infos};
 ghost use Rattle.xk_base.specs.declared.ids.Slot.{Slot};
 ghost use Rattle.vm_memory.specs.Bytes.{MeansBytes, MeansBytesOver, none_out, pages_out};
 ghost use Rattle.xk_ports.specs.Keeping.{KeepsStore};
-ghost use Rattle.vm_memory.specs.Pages.Changing.{ChangesPagesAlone};
+ghost use Rattle.vm_memory.specs.Pages.Changing.{ChangesPagesAlone, TakesNoSeat};
 ghost use Rattle.vm_memory.specs.Pages.Making.{HasMadeFirst, MakesFirst, MakesPages, after_console, after_make, console_answer};
 ghost use Rattle.vm_memory.specs.Pages.Making.{make_answer, run_place};
 ghost use Rattle.vm_memory.specs.Memory.{IsUsable, capacity_of, frames_for_pages, has_failed, ledger, processes, room_in, size, store_of};
@@ -217,6 +217,8 @@ impl<W: SwapStore> Memory<W> {
         ensures tie { IsTied W.held self.new }
         ensures size { size self.new ≡ size self.old }
         ensures store { store_of self.new ≡ store_of self.old }
+        // No page goes out, and none comes in.
+        ensures seats { TakesNoSeat self.old self.new }
         ensures none { none_out self.old ≡ true → none_out self.new ≡ true }
         ensures means { MeansBytes W.SwapStore self.old → MeansBytes W.SwapStore self.new }
     {
