@@ -31,7 +31,7 @@ played_parts true bad e = absurd (let differ : LimitMet ≡ Played = e in cc)
 played_parts false (Some line) e = absurd (let differ : BadLine line ≡ Played = e in cc)
 
 -- an ending behind so many lines
-pub ending_behind : ℕ → Ending → Ending
+abbrev pub ending_behind : ℕ → Ending → Ending
 ending_behind lines Played = Played
 ending_behind lines LimitMet = LimitMet
 ending_behind lines (BadLine line) = BadLine (line + lines)
