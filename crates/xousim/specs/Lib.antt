@@ -1,4 +1,5 @@
 pub mod Finish
+pub mod Headline
 pub mod Outcome
 pub mod Resumed
 pub mod SplitCalls

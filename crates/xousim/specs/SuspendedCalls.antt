@@ -18,7 +18,7 @@ use Rattle.xousim.specs.Outcome.Images.{Boots, IsSoundImage}
 use Rattle.xousim.specs.Outcome.Resumes.{EndsResume}
 use Rattle.xousim.specs.Outcome.Sides.{Call}
 use Rattle.xousim.specs.Outcome.Suspends.{EndsSuspend, silent}
-use Rattle.xousim.specs.Outcome.Verdicts.{IsKnownPlay, IsKnownResume}
+use Rattle.xousim.specs.Outcome.Known.{IsKnownPlay, IsKnownResume}
 use Rattle.xousim.specs.SplitCalls.{PlaysOn, is_cut_short}
 use Rattle.xousim.specs.Splits.{Setup}
 use Rattle.xousim.specs.Words.{Play, Resume, Suspend}

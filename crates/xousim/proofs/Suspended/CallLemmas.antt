@@ -42,6 +42,7 @@ use Rattle.xousim.specs.declared.status.Status.{Status}
 use Rattle.xousim.specs.declared.status.Status.TheVariants.{Done, Usage, ReadFault, WriteFault, ImageFault, EventFault, StepLimit, SwapFault, NoMemory}
 use Rattle.xousim.specs.Outcome.Images.{Boots, IsSoundImage, Refuses, plan_in}
 use Rattle.xousim.specs.Outcome.Resumes.{EndsResume, EndsResumed, limit_from, resumed_on, traced}
+use Rattle.xousim.specs.Outcome.Says.{status_of}
 use Rattle.xousim.specs.Outcome.Sides.{Call, HostRose, StoreSide}
 use Rattle.xousim.specs.Outcome.Starts.{Stops, StopsIn, booted_of}
 use Rattle.event_player.specs.Rooms.{Room}
@@ -53,9 +54,9 @@ use Rattle.xousim.specs.StateFiles.{IsStateFault, Restores}
 use Rattle.xousim.specs.SuspendedCalls.{EndAsOne, GoesOn, IsOneRun, Suspends, TwoPartRun, behind_lines}
 use Rattle.xousim.specs.Words.{Resume, Suspend}
 use Rattle.xousim.proofs.Images.MatchedLemmas.{no_plan_fault}
-use Rattle.xousim.proofs.Outcome.ResumeVerdictLemmas.{one_machine, restored_no_fault}
+use Rattle.xousim.proofs.Outcome.StateLemmas.{one_machine, restored_no_fault}
 use Rattle.xousim.proofs.ResumedLemmas.{within_limit}
-use Rattle.xousim.proofs.Splitting.SplitCallLemmas.{PlayedOut, not_whole, out_of, ran, status_of}
+use Rattle.xousim.proofs.Splitting.SplitCallLemmas.{PlayedOut, not_whole, out_of, ran}
 use Rattle.xousim.proofs.Splitting.SplitLemmas.{only_start}
 use Rattle.xousim.proofs.Suspended.RunLemmas.{IsBehind, runs_behind, status_behind, told_behind}
 

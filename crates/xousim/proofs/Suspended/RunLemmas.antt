@@ -17,10 +17,10 @@ use Rattle.event_player.specs.declared.ending.Ending.TheVariants.{Played, LimitM
 use Rattle.event_player.specs.declared.telling.Telling.TheVariants.{Trace}
 use Rattle.event_player.specs.History.{History, end_of, history_of, run_of}
 use Rattle.event_player.specs.Telling.{closing, output, told, told_of}
+use Rattle.xousim.specs.Outcome.Says.{status_of}
 use Rattle.xousim.specs.Resumed.{IsJoined}
 use Rattle.xousim.specs.SuspendedCalls.{behind_lines}
 use Rattle.xousim.proofs.ResumedLemmas.{unmet_joined}
-use Rattle.xousim.proofs.Splitting.SplitCallLemmas.{status_of}
 
 -- ---- endings
 
