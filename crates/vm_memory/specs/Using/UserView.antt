@@ -64,4 +64,6 @@ pub record KeepsRest {W : Type 0} (S : SwapStore W)
   pub tie : IsSound S.slot_count old → IsTied S.held new
   pub out : none_out old ≡ true → IsUsable old → IsUsable new
   pub none : none_out old ≡ true → none_out new ≡ true
+  -- where no page is out, the store isn't called
+  pub still : none_out old ≡ true → store_of new ≡ store_of old
   pub store : KeepsStore S (store_of old) (store_of new)
