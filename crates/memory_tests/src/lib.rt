@@ -17,4 +17,6 @@ mod queues;
 #[cfg(test)]
 mod slots;
 #[cfg(test)]
+mod small_space;
+#[cfg(test)]
 mod spaces;

@@ -4,7 +4,7 @@ use Rattle.phys_pages.specs.Owners.{infos}
 use Rattle.sv32_space.specs.EntryLoans.{StandsIn}
 use Rattle.loan_flags.specs.Keeping.{entries_of}
 use Rattle.swap_map.proofs.TestLemmas.{loan_stands}
-use Rattle.memory_tests.proofs.slots.goes_out.Goals as goal
+use Rattle.memory_tests.proofs.small_space.goes_out.Goals as goal
 
 pub returns : goal.returns
 returns c = record {
