@@ -9,7 +9,7 @@ ghost use Rattle.sv32_space.specs.declared.sides.EntryKind.TheVariants.{Here, Ou
 use loan_flags::{free_run, may_send};
 use phys_pages::{Ram, Seat};
 use sv32_space::{Entry, EntryKind, Side, entry_of, new_space, set_entry};
-use xk_base::{Frame, LoanKind, MemKind, Pid, Place, Right, Slot, Vpn, Window, XousError};
+use xk_base::{Frame, MemKind, Pid, Place, Right, Slot, Vpn, Window, XousError};
 
 const START: u32 = 0x4000_0000;
 

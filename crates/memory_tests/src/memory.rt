@@ -12,7 +12,7 @@ use boot_plan::{BootPlan, PagePlan, ProcPlan};
 use std::alloc::Global;
 use vm_memory::{BootError, BootFault, Memory};
 use xk_base::{NoMemory, Number, Pid, Place, Right, Row, Vpn};
-use xk_ports::{SureStore, SwapStore};
+use xk_ports::SwapStore;
 
 mod exchange;
 mod first_pages;

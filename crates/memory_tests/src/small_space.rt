@@ -63,7 +63,7 @@ fn place(vpn: u32) -> Place
 }
 
 /// A process without a page, and no loan of message 7. Frame 22 holds sevens.
-#[tactic(auto, using(phys_pages::proofs::PageLemmas::page_writes, loan_flags::proofs::TestSpaceLemmas::none_unlent))]
+#[tactic(auto, using(phys_pages::proofs::PageLemmas::page_writes, crate::proofs::SmallSpaceLemmas::none_unlent))]
 fn empty(alloc: Global) -> Result<Space, NoMemory>
     ensures unlent { IfOk result (λ s. IsUnlent (infos s.owners) (record { 0 = 7 })) }
 {

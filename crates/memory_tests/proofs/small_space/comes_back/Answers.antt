@@ -3,7 +3,7 @@ use Rattle.xk_ports.specs.Pages.{contents_of}
 use Rattle.phys_pages.specs.Owners.{infos}
 use Rattle.sv32_space.specs.EntryLoans.{StandsIn}
 use Rattle.loan_flags.specs.Keeping.{entries_of}
-use Rattle.swap_map.proofs.TestLemmas.{loan_stands}
+use Rattle.memory_tests.proofs.SmallSpaceLemmas.{loan_stands}
 use Rattle.memory_tests.proofs.small_space.comes_back.Goals as goal
 
 pub returns : goal.returns
