@@ -1,5 +1,7 @@
 //! Threads by id: their order, their ids, and who receives.
 
+ghost use Rattle.std.specs.Prelude.{◌≡◌};
+
 use thread_table::{Thread, ThreadState, Threads};
 use xk_base::{Number, Pid, Regs, Serial, ThreadId, Tid};
 
