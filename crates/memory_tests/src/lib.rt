@@ -5,6 +5,8 @@
 #[cfg(test)]
 mod entries_and_owners;
 #[cfg(test)]
+mod expecting;
+#[cfg(test)]
 mod frames;
 #[cfg(test)]
 mod loan_runs;

@@ -17,9 +17,7 @@ use std::alloc::Global;
 use std::marker::Model;
 use sv32_space::{Entry, Side, entry_at, leaf, new_space, set_entry};
 use swap_map::{bring, evict};
-use xk_base::{
-    Frame, LoanKind, MemKind, NoMemory, Number, Pid, Place, Right, Slot, Vpn, Window,
-};
+use xk_base::{Frame, LoanKind, MemKind, NoMemory, Number, Pid, Place, Right, Slot, Vpn, Window};
 use xk_ports::{MemStore, SwapStore};
 
 const START: u32 = 0x4000_0000;

@@ -5,6 +5,7 @@ ghost use Rattle.vm_memory.specs.Memory.{IsUsable};
 ghost use Rattle.vm_memory.specs.Sound.{IsSound};
 
 use super::{PID, end};
+use crate::expecting::expect;
 use boot_plan::plan;
 use kernel_args::read_args;
 use phys_pages::Ram;
@@ -71,10 +72,10 @@ fn page_starts(ram: &Ram, vpn: u32, front: &[u8]) -> bool
 fn pages<W: SwapStore>(rt: &impl Abort, memory: &Memory<W>)
     requires sound { IsSound W.slot_count memory.now }
 {
-    assert_eq!(rt; (memory.pages(), memory.cap()), (10, 4074));
+    expect(rt, (memory.pages(), memory.cap()) == (10, 4074));
     for k in 0..10 {
         let front: &[u8] = if k == 0 { &FIRST_IMAGE[52..] } else { &[] };
-        assert!(rt; page_starts(memory.ram(), FIRST_PAGES[k], front));
+        expect(rt, page_starts(memory.ram(), FIRST_PAGES[k], front));
     }
 }
 
@@ -85,6 +86,6 @@ fn pages_of_the_first_run(rt: HostRuntime) {
             pages(&rt, &memory);
             let _ = end(memory);
         }
-        Err(_) => assert!(rt; false),
+        Err(_) => expect(&rt, false),
     }
 }

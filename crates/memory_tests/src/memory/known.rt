@@ -6,6 +6,7 @@ ghost use Rattle.vm_memory.specs.Sound.{IsSound};
 ghost use Rattle.xk_base.specs.Tables.Circle.{is_pid};
 
 use super::{PID, booted, end, exchange, user};
+use crate::expecting::{expect, expect_read, expect_stored};
 use std::process::Abort;
 use vm_memory::{KnownPages, KnownUser, Memory};
 use xk_base::{Failed, Stored, UserMemory, Vpn, Width};
@@ -19,7 +20,7 @@ fn script<W: SwapStore>(rt: &impl Abort, memory: &mut Memory<W>) -> Result<(), F
     requires process { is_pid (processes memory.old) 2 ≡ true }
 {
     let mapped = memory.make_console(PID, None, true);
-    assert_eq!(rt; mapped, Ok(Vpn(0x6_0000)));
+    expect(rt, mapped == Ok(Vpn(0x6_0000)));
     let mut user = KnownUser {
         mem: memory,
         pid: PID,
@@ -38,10 +39,10 @@ fn script<W: SwapStore>(rt: &impl Abort, memory: &mut Memory<W>) -> Result<(), F
 fn known_pages_are_reached(rt: HostRuntime) {
     match booted(rt.alloc(), SureStore::new()) {
         Ok(mut memory) => {
-            assert_eq!(rt; script(&rt, &mut memory), Ok(()));
+            expect(&rt, script(&rt, &mut memory) == Ok(()));
             let _ = end(memory);
         }
-        Err(_) => assert!(rt; false),
+        Err(_) => expect(&rt, false),
     }
 }
 
@@ -51,13 +52,13 @@ fn round<U: UserMemory>(rt: &impl Abort, user: &mut U, old: u32, new: u32) -> Re
     requires fit { U.fit user.old }
     ensures fit { IfOk result (λ _. U.fit user.new) }
 {
-    assert_eq!(rt; user.load(0x1_0000, Width::Byte)?, Some(old));
-    assert_eq!(rt; user.load(0x1_0000, Width::Byte)?, Some(old));
+    expect_read(rt, user.load(0x1_0000, Width::Byte)?, Some(old));
+    expect_read(rt, user.load(0x1_0000, Width::Byte)?, Some(old));
     let stored = user.store(0x1_0000, Width::Byte, new)?;
-    assert_eq!(rt; stored, Stored::Done);
-    assert_eq!(rt; user.load(0x1_0000, Width::Byte)?, Some(new));
-    assert_eq!(rt; user.load(0x2000_0000, Width::Byte)?, Some(2));
-    assert_eq!(rt; user.load(0x7FFF_F000, Width::Byte)?, Some(3));
+    expect_stored(rt, stored, Stored::Done);
+    expect_read(rt, user.load(0x1_0000, Width::Byte)?, Some(new));
+    expect_read(rt, user.load(0x2000_0000, Width::Byte)?, Some(2));
+    expect_read(rt, user.load(0x7FFF_F000, Width::Byte)?, Some(3));
     Ok(())
 }
 
@@ -91,14 +92,14 @@ fn exchanging<W: SwapStore>(rt: &impl Abort, memory: &mut Memory<W>) -> Result<(
 fn known_pages_are_forgotten(rt: HostRuntime) {
     let mut store = MemStore::new(Vec::new(rt.alloc()));
     if store.prepare(rt.alloc(), 4, None).is_err() {
-        assert!(rt; false);
+        expect(&rt, false);
         return;
     }
     match exchange::booted(rt.alloc(), store) {
         Ok(mut memory) => {
-            assert_eq!(rt; exchanging(&rt, &mut memory), Ok(()));
+            expect(&rt, exchanging(&rt, &mut memory) == Ok(()));
             let _ = end(memory);
         }
-        Err(_) => assert!(rt; false),
+        Err(_) => expect(&rt, false),
     }
 }

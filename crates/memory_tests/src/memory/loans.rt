@@ -9,6 +9,7 @@ ghost use Rattle.vm_memory.specs.Sound.{IsSound};
 ghost use Rattle.vm_memory.specs.Using.UserView.{KeepsRest};
 
 use super::{WRITE, end};
+use crate::expecting::{expect, expect_here, expect_read, expect_walked, expect_word};
 use boot_plan::{BootPlan, PagePlan, ProcPlan};
 use loan_flags::Loan;
 use std::alloc::Global;
@@ -176,9 +177,9 @@ fn lent<W: SwapStore>(rt: &impl Abort, memory: &mut Memory<W>, kind: LoanKind) -
     ensures loan { MatchOption result Unit (λ loan. (loan.lender ≡ Some (record { pid = LENDER; vpn = record { 0 = 131072 } }))
         × Stands (loans (ledger W.held memory.new)) loan) }
 {
-    assert!(rt; store(memory, LENDER, FROM, 0x1234_5678));
-    assert!(rt; store(memory, LENDER, FROM + 0x1FFC, 0x9ABC_DEF0));
-    assert_eq!(rt; load(memory, HOLDER, TO), None);
+    expect(rt, store(memory, LENDER, FROM, 0x1234_5678));
+    expect(rt, store(memory, LENDER, FROM + 0x1FFC, 0x9ABC_DEF0));
+    expect_read(rt, load(memory, HOLDER, TO), None);
     found_run_takes_pages();
     let to = memory.free_run(HOLDER, Window::Message, 2)?;
     assert_eq!(rt; to, Vpn(0x4_0000));
@@ -197,12 +198,12 @@ fn none_lent<W: SwapStore>(rt: &impl Abort, memory: &mut Memory<W>, last: u32)
     requires usable { IsUsable memory.old }
     requires slots { (size memory.old).slots ≡ 0 }
 {
-    assert_eq!(rt; memory.at(place(HOLDER, TO)), Here::Nothing);
-    assert_eq!(rt; load(memory, HOLDER, TO + 0x1FFC), None);
-    assert!(rt; !store(memory, HOLDER, TO + 0x1FFC, 1));
-    assert_eq!(rt; load(memory, LENDER, FROM), Some(0x1234_5678));
-    assert_eq!(rt; load(memory, LENDER, FROM + 0x1FFC), Some(last));
-    assert!(rt; store(memory, LENDER, FROM + 0x1FFC, 2));
+    expect_here(rt, memory.at(place(HOLDER, TO)), Here::Nothing);
+    expect_read(rt, load(memory, HOLDER, TO + 0x1FFC), None);
+    expect(rt, !store(memory, HOLDER, TO + 0x1FFC, 1));
+    expect_read(rt, load(memory, LENDER, FROM), Some(0x1234_5678));
+    expect_read(rt, load(memory, LENDER, FROM + 0x1FFC), Some(last));
+    expect(rt, store(memory, LENDER, FROM + 0x1FFC, 2));
 }
 
 // While they are lent both sides load, and neither stores.
@@ -214,20 +215,20 @@ fn lend_script<W: SwapStore>(rt: &impl Abort, memory: &mut Memory<W>)
     requires fresh { IsFresh (loans (ledger W.held memory.old)) ONE }
 {
     let Some(loan) = lent(rt, memory, LoanKind::Shared) else {
-        assert!(rt; false);
+        expect(rt, false);
         return;
     };
-    assert_eq!(rt; load(memory, LENDER, FROM), Some(0x1234_5678));
-    assert_eq!(rt; load(memory, HOLDER, TO), Some(0x1234_5678));
-    assert_eq!(rt; load(memory, HOLDER, TO + 0x1FFC), Some(0x9ABC_DEF0));
-    assert!(rt; !store(memory, LENDER, FROM + 0x1FFC, 1));
-    assert!(rt; !store(memory, HOLDER, TO, 1));
+    expect_read(rt, load(memory, LENDER, FROM), Some(0x1234_5678));
+    expect_read(rt, load(memory, HOLDER, TO), Some(0x1234_5678));
+    expect_read(rt, load(memory, HOLDER, TO + 0x1FFC), Some(0x9ABC_DEF0));
+    expect(rt, !store(memory, LENDER, FROM + 0x1FFC, 1));
+    expect(rt, !store(memory, HOLDER, TO, 1));
     let here = Here::Lent {
         kind: LoanKind::Shared,
         lender: Some(place(LENDER, FROM + 0x1000)),
         number: ONE,
     };
-    assert_eq!(rt; memory.at(place(HOLDER, TO + 0x1000)), here);
+    expect_here(rt, memory.at(place(HOLDER, TO + 0x1000)), here);
     memory.end_loan(loan);
     none_lent(rt, memory, 0x9ABC_DEF0);
 }
@@ -239,7 +240,7 @@ fn lent_pages_are_read_by_both(rt: HostRuntime) {
             lend_script(&rt, &mut memory);
             let _ = end(memory);
         }
-        Err(_) => assert!(rt; false),
+        Err(_) => expect(&rt, false),
     }
 }
 
@@ -252,13 +253,13 @@ fn mutable_script<W: SwapStore>(rt: &impl Abort, memory: &mut Memory<W>)
     requires fresh { IsFresh (loans (ledger W.held memory.old)) ONE }
 {
     let Some(loan) = lent(rt, memory, LoanKind::Exclusive) else {
-        assert!(rt; false);
+        expect(rt, false);
         return;
     };
-    assert_eq!(rt; load(memory, LENDER, FROM), None);
-    assert!(rt; !store(memory, LENDER, FROM, 1));
-    assert_eq!(rt; load(memory, HOLDER, TO), Some(0x1234_5678));
-    assert!(rt; store(memory, HOLDER, TO + 0x1FFC, 0x0BAD_CAFE));
+    expect_read(rt, load(memory, LENDER, FROM), None);
+    expect(rt, !store(memory, LENDER, FROM, 1));
+    expect_read(rt, load(memory, HOLDER, TO), Some(0x1234_5678));
+    expect(rt, store(memory, HOLDER, TO + 0x1FFC, 0x0BAD_CAFE));
     memory.end_loan(loan);
     none_lent(rt, memory, 0x0BAD_CAFE);
 }
@@ -270,7 +271,7 @@ fn mutably_lent_pages_are_the_holders(rt: HostRuntime) {
             mutable_script(&rt, &mut memory);
             let _ = end(memory);
         }
-        Err(_) => assert!(rt; false),
+        Err(_) => expect(&rt, false),
     }
 }
 
@@ -284,7 +285,7 @@ fn orphan_script<W: SwapStore>(rt: &impl Abort, memory: &mut Memory<W>)
     requires fresh { IsFresh (loans (ledger W.held memory.old)) ONE }
 {
     let Some(loan) = lent(rt, memory, LoanKind::Exclusive) else {
-        assert!(rt; false);
+        expect(rt, false);
         return;
     };
     let loan = memory.orphan(loan);
@@ -293,21 +294,21 @@ fn orphan_script<W: SwapStore>(rt: &impl Abort, memory: &mut Memory<W>)
         lender: None,
         number: ONE,
     };
-    assert_eq!(rt; memory.at(place(HOLDER, TO)), here);
-    assert_eq!(rt; memory.at(place(LENDER, FROM)), Here::Nothing);
-    assert!(rt; store(memory, HOLDER, TO, 0x0BAD_CAFE));
-    assert_eq!(rt; load(memory, HOLDER, TO), Some(0x0BAD_CAFE));
-    assert_eq!(rt; load(memory, LENDER, FROM), None);
-    assert_eq!(rt; memory.pages(), 4);
+    expect_here(rt, memory.at(place(HOLDER, TO)), here);
+    expect_here(rt, memory.at(place(LENDER, FROM)), Here::Nothing);
+    expect(rt, store(memory, HOLDER, TO, 0x0BAD_CAFE));
+    expect_read(rt, load(memory, HOLDER, TO), Some(0x0BAD_CAFE));
+    expect_read(rt, load(memory, LENDER, FROM), None);
+    expect_word(rt, memory.pages(), 4);
     memory.end_loan(loan);
-    assert_eq!(rt; memory.pages(), 2);
-    assert_eq!(rt; load(memory, HOLDER, TO), None);
+    expect_word(rt, memory.pages(), 2);
+    expect_read(rt, load(memory, HOLDER, TO), None);
     let made = memory.make(HOLDER, Window::Heap, None, 2, WRITE);
-    assert!(rt; made == Ok(Ok(Vpn(0x2_0000))));
+    expect(rt, made == Ok(Ok(Vpn(0x2_0000))));
     let reached = walk(memory.ram(), root_of(HOLDER), FROM, Access::Load);
-    assert_eq!(rt; reached, Walked::Reaches(0x4002_C000));
-    assert_eq!(rt; load(memory, HOLDER, FROM), Some(0));
-    assert_eq!(rt; load(memory, HOLDER, FROM + 0x1FFC), Some(0));
+    expect_walked(rt, reached, Walked::Reaches(0x4002_C000));
+    expect_read(rt, load(memory, HOLDER, FROM), Some(0));
+    expect_read(rt, load(memory, HOLDER, FROM + 0x1FFC), Some(0));
 }
 
 #[test]
@@ -317,6 +318,6 @@ fn orphans_are_the_holders_until_they_are_forgotten(rt: HostRuntime) {
             orphan_script(&rt, &mut memory);
             let _ = end(memory);
         }
-        Err(_) => assert!(rt; false),
+        Err(_) => expect(&rt, false),
     }
 }

@@ -6,6 +6,7 @@ ghost use Rattle.vm_memory.specs.Memory.{IsUsable, processes};
 ghost use Rattle.vm_memory.specs.Sound.{IsSound};
 
 use super::{PID, booted, end};
+use crate::expecting::{expect, expect_read, expect_stored};
 use std::process::Abort;
 use vm_memory::{Memory, User};
 use xk_base::{Failed, Stored, UserMemory, Vpn, Width};
@@ -18,18 +19,18 @@ fn widths<U: UserMemory>(rt: &impl Abort, user: &mut U) -> Result<(), Failed>
 {
     let first = 0x7FFF_F000;
     let stored = user.store(first, Width::Word, 0x89AB_CDEF)?;
-    assert_eq!(rt; stored, Stored::Done);
+    expect_stored(rt, stored, Stored::Done);
     let stored = user.store(first, Width::Byte, 0x0123)?;
-    assert_eq!(rt; stored, Stored::Done);
-    assert_eq!(rt; user.load(first, Width::Word)?, Some(0x89AB_CD23));
-    assert_eq!(rt; user.load(first, Width::Half)?, Some(0xCD23));
+    expect_stored(rt, stored, Stored::Done);
+    expect_read(rt, user.load(first, Width::Word)?, Some(0x89AB_CD23));
+    expect_read(rt, user.load(first, Width::Half)?, Some(0xCD23));
     let stored = user.store(0x7FFF_FFFC, Width::Word, 0x89AB_CDEF)?;
-    assert_eq!(rt; stored, Stored::Done);
+    expect_stored(rt, stored, Stored::Done);
     let stored = user.store(0x7FFF_FFFE, Width::Half, 0x5678_9ABC)?;
-    assert_eq!(rt; stored, Stored::Done);
-    assert_eq!(rt; user.load(0x7FFF_FFFC, Width::Word)?, Some(0x9ABC_CDEF));
-    assert_eq!(rt; user.load(0x7FFF_FFFE, Width::Half)?, Some(0x9ABC));
-    assert_eq!(rt; user.load(0x7FFF_FFFF, Width::Byte)?, Some(0x9A));
+    expect_stored(rt, stored, Stored::Done);
+    expect_read(rt, user.load(0x7FFF_FFFC, Width::Word)?, Some(0x9ABC_CDEF));
+    expect_read(rt, user.load(0x7FFF_FFFE, Width::Half)?, Some(0x9ABC));
+    expect_read(rt, user.load(0x7FFF_FFFF, Width::Byte)?, Some(0x9A));
     Ok(())
 }
 
@@ -39,14 +40,14 @@ fn rights<U: UserMemory>(rt: &impl Abort, user: &mut U) -> Result<(), Failed>
     ensures fit { IfOk result (λ _. U.fit user.new) }
 {
     let stored = user.store(0x1_0000, Width::Word, 0)?;
-    assert_eq!(rt; stored, Stored::Fault);
-    assert_eq!(rt; user.fetch(0x1_0000)?, Some(0x0010_0513));
-    assert_eq!(rt; user.load(0x1_0023, Width::Byte)?, Some(0xEF));
-    assert_eq!(rt; user.load(0x1_0024, Width::Word)?, Some(0));
-    assert_eq!(rt; user.fetch(0x7FFF_F000)?, None);
-    assert_eq!(rt; user.load(0x1_1000, Width::Byte)?, None);
-    assert!(rt; user.can_store(0x7FFF_F000, Width::Word));
-    assert!(rt; !user.can_store(0x1_0000, Width::Word));
+    expect_stored(rt, stored, Stored::Fault);
+    expect_read(rt, user.fetch(0x1_0000)?, Some(0x0010_0513));
+    expect_read(rt, user.load(0x1_0023, Width::Byte)?, Some(0xEF));
+    expect_read(rt, user.load(0x1_0024, Width::Word)?, Some(0));
+    expect_read(rt, user.fetch(0x7FFF_F000)?, None);
+    expect_read(rt, user.load(0x1_1000, Width::Byte)?, None);
+    expect(rt, user.can_store(0x7FFF_F000, Width::Word));
+    expect(rt, !user.can_store(0x1_0000, Width::Word));
     Ok(())
 }
 
@@ -55,9 +56,9 @@ fn console<U: UserMemory>(rt: &impl Abort, user: &mut U) -> Result<(), Failed>
     requires fit { U.fit user.old }
 {
     let stored = user.store(0x6000_0FFF, Width::Byte, 65)?;
-    assert_eq!(rt; stored, Stored::Device(0xFFF));
-    assert_eq!(rt; user.load(0x6000_0FFF, Width::Byte)?, Some(0));
-    assert_eq!(rt; user.fetch(0x6000_0000)?, None);
+    expect_stored(rt, stored, Stored::Device(0xFFF));
+    expect_read(rt, user.load(0x6000_0FFF, Width::Byte)?, Some(0));
+    expect_read(rt, user.fetch(0x6000_0000)?, None);
     Ok(())
 }
 
@@ -75,7 +76,7 @@ fn script<W: SwapStore>(rt: &impl Abort, memory: &mut Memory<W>) -> Result<(), F
     requires process { is_pid (processes memory.old) 2 ≡ true }
 {
     let mapped = memory.make_console(PID, None, true);
-    assert_eq!(rt; mapped, Ok(Vpn(0x6_0000)));
+    expect(rt, mapped == Ok(Vpn(0x6_0000)));
     let mut user = User {
         mem: memory,
         pid: PID,
@@ -89,9 +90,9 @@ fn script<W: SwapStore>(rt: &impl Abort, memory: &mut Memory<W>) -> Result<(), F
 fn user_reaches_its_pages(rt: HostRuntime) {
     match booted(rt.alloc(), SureStore::new()) {
         Ok(mut memory) => {
-            assert_eq!(rt; script(&rt, &mut memory), Ok(()));
+            expect(&rt, script(&rt, &mut memory) == Ok(()));
             let _ = end(memory);
         }
-        Err(_) => assert!(rt; false),
+        Err(_) => expect(&rt, false),
     }
 }

@@ -6,6 +6,7 @@ ghost use Rattle.vm_memory.specs.Memory.{IsUsable, processes};
 ghost use Rattle.vm_memory.specs.Sound.{IsSound};
 
 use super::{PID, READ, WRITE, at, booted, end};
+use crate::expecting::{expect, expect_here, expect_run, expect_word};
 use std::process::Abort;
 use sv32_space::leaf;
 use vm_memory::{Here, Memory};
@@ -20,24 +21,25 @@ fn heap_script<W: SwapStore>(rt: &impl Abort, memory: &mut Memory<W>)
 {
     let first = Some(Vpn(0x2_0000));
     let made = memory.make(PID, Window::Heap, first, 2, WRITE);
-    assert!(rt; made == Ok(Ok(Vpn(0x2_0000))));
+    expect(rt, made == Ok(Ok(Vpn(0x2_0000))));
     let made = memory.make(PID, Window::Heap, first, 2, WRITE);
-    assert!(rt; made == Ok(Err(XousError::MemoryInUse)));
-    assert_eq!(rt; (memory.pages(), memory.cap()), (4, 4074));
+    expect(rt, made == Ok(Err(XousError::MemoryInUse)));
+    expect(rt, (memory.pages(), memory.cap()) == (4, 4074));
     // Own, readable and writable, of the first frame behind those of the tables and two pages.
-    assert_eq!(rt;
+    expect_word(
+        rt,
         leaf(memory.ram(), at(0x2_0000)),
-        (0x4_0000 + 23) * 1024 + 0x0D7
+        (0x4_0000 + 23) * 1024 + 0x0D7,
     );
-    assert_eq!(rt; memory.reduce_run(at(0x2_0000), 2, READ), Ok(()));
+    expect(rt, memory.reduce_run(at(0x2_0000), 2, READ) == Ok(()));
     let reduced = memory.reduce_run(at(0x2_0000), 2, WRITE);
-    assert_eq!(rt; reduced, Err(XousError::AccessDenied));
-    assert_eq!(rt; memory.remove_run(at(0x2_0000), 2), Ok(()));
+    expect(rt, reduced == Err(XousError::AccessDenied));
+    expect(rt, memory.remove_run(at(0x2_0000), 2) == Ok(()));
     let removed = memory.remove_run(at(0x2_0000), 2);
-    assert_eq!(rt; removed, Err(XousError::BadAddress));
-    assert_eq!(rt; memory.clear_run(at(0x2_0000), 2), Ok(()));
-    assert_eq!(rt; memory.free_run(PID, Window::Heap, 2), first);
-    assert_eq!(rt; memory.pages(), 2);
+    expect(rt, removed == Err(XousError::BadAddress));
+    expect(rt, memory.clear_run(at(0x2_0000), 2) == Ok(()));
+    expect_run(rt, memory.free_run(PID, Window::Heap, 2), first);
+    expect_word(rt, memory.pages(), 2);
 }
 
 #[test]
@@ -47,7 +49,7 @@ fn heap_pages_come_and_go(rt: HostRuntime) {
             heap_script(&rt, &mut memory);
             let _ = end(memory);
         }
-        Err(_) => assert!(rt; false),
+        Err(_) => expect(&rt, false),
     }
 }
 
@@ -59,22 +61,22 @@ fn map_script<W: SwapStore>(rt: &impl Abort, memory: &mut Memory<W>)
 {
     let last = Some(Vpn(0x6_0FFF));
     let made = memory.make(PID, Window::Map, last, 1, WRITE);
-    assert!(rt; made == Ok(Ok(Vpn(0x6_0FFF))));
+    expect(rt, made == Ok(Ok(Vpn(0x6_0FFF))));
     let made = memory.make(PID, Window::Map, last, 2, WRITE);
-    assert!(rt; made == Ok(Err(XousError::BadAddress)));
+    expect(rt, made == Ok(Err(XousError::BadAddress)));
     let made = memory.make(PID, Window::Map, last, 1, WRITE);
-    assert!(rt; made == Ok(Err(XousError::MemoryInUse)));
+    expect(rt, made == Ok(Err(XousError::MemoryInUse)));
     let mapped = memory.make_console(PID, None, true);
-    assert_eq!(rt; mapped, Ok(Vpn(0x6_0000)));
+    expect(rt, mapped == Ok(Vpn(0x6_0000)));
     let mapped = memory.make_console(PID, None, true);
-    assert_eq!(rt; mapped, Err(XousError::MemoryInUse));
+    expect(rt, mapped == Err(XousError::MemoryInUse));
     let console = Here::Own {
         right: WRITE,
         console: true,
         loan: None,
     };
-    assert_eq!(rt; memory.at(at(0x6_0000)), console);
-    assert_eq!(rt; memory.pages(), 3);
+    expect_here(rt, memory.at(at(0x6_0000)), console);
+    expect_word(rt, memory.pages(), 3);
 }
 
 #[test]
@@ -84,7 +86,7 @@ fn map_window_ends(rt: HostRuntime) {
             map_script(&rt, &mut memory);
             let _ = end(memory);
         }
-        Err(_) => assert!(rt; false),
+        Err(_) => expect(&rt, false),
     }
 }
 
@@ -95,12 +97,12 @@ fn last_page_script<W: SwapStore>(rt: &impl Abort, memory: &mut Memory<W>)
     requires process { is_pid (processes memory.old) 2 ≡ true }
 {
     let mapped = memory.make_console(PID, Some(Vpn(0x6_0FFF)), false);
-    assert_eq!(rt; mapped, Ok(Vpn(0x6_0FFF)));
+    expect(rt, mapped == Ok(Vpn(0x6_0FFF)));
     let mapped = memory.make_console(PID, None, false);
-    assert_eq!(rt; mapped, Err(XousError::MemoryInUse));
-    assert_eq!(rt; memory.remove_run(at(0x6_0FFF), 1), Ok(()));
+    expect(rt, mapped == Err(XousError::MemoryInUse));
+    expect(rt, memory.remove_run(at(0x6_0FFF), 1) == Ok(()));
     let mapped = memory.make_console(PID, None, false);
-    assert_eq!(rt; mapped, Ok(Vpn(0x6_0000)));
+    expect(rt, mapped == Ok(Vpn(0x6_0000)));
 }
 
 #[test]
@@ -110,6 +112,6 @@ fn console_at_the_last_page_is_found(rt: HostRuntime) {
             last_page_script(&rt, &mut memory);
             let _ = end(memory);
         }
-        Err(_) => assert!(rt; false),
+        Err(_) => expect(&rt, false),
     }
 }
