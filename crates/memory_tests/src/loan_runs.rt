@@ -16,7 +16,7 @@ use std::alloc::Global;
 use std::marker::Model;
 use sv32_space::{Entry, Side, entry_at, leaf, new_space, set_entry};
 use xk_base::{
-    Frame, LoanKind, MemKind, Message, NoMemory, Number, Pid, Place, Right, Slot, Vpn, Window,
+    Frame, LoanKind, MemKind, NoMemory, Number, Pid, Place, Right, Slot, Vpn, Window,
 };
 
 const START: u32 = 0x4000_0000;

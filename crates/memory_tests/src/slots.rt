@@ -19,7 +19,7 @@ use std::test::Fail;
 use sv32_space::{Entry, Side, entry_at, leaf, new_space, set_entry};
 use swap_map::{bring, evict};
 use xk_base::{
-    Frame, LoanKind, MemKind, Message, NoMemory, Number, Pid, Place, Right, Slot, Vpn, Window,
+    Frame, LoanKind, MemKind, NoMemory, Number, Pid, Place, Right, Slot, Vpn, Window,
 };
 use xk_ports::{MemStore, SwapStore};
 
