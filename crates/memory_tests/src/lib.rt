@@ -1,5 +1,5 @@
-//! Tests of the crates of memory over their public calls: frames, tables, loans, queues, slots, and the whole memory. They stand
-//! here and not in those crates, so that these are proved once.
+//! Tests of the crates below the memory over their public calls: frames, tables, loans, queues and slots. They stand here and not
+//! in those crates, so that these are proved once.
 #![tactic(auto)]
 
 #[cfg(test)]
@@ -10,8 +10,6 @@ mod frames;
 mod loan_runs;
 #[cfg(test)]
 mod loans;
-#[cfg(test)]
-mod memory;
 #[cfg(test)]
 mod queues;
 #[cfg(test)]
