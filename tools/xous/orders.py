@@ -1,9 +1,11 @@
 """Every order of the threads of an image, searched breadth first over runs of the program. It is slow, and proves nothing.
 
 A *slice* of a ready thread is `pick` of it and its steps up to the first that leaves a record, at most so many as the quantum. A
-*node* is a state without its cursor and, as long as nobody has claimed the timer's interrupt, without its count of steps, with the
-console's bytes so far and the events that may still come. An *ending* is a node in which nobody is ready, or where steps count
-and are at their bound.
+*node* is a state without its cursor and, where steps don't count, without its count of steps, with the console's bytes so far and the
+events that may still come. An *ending* is a node in which nobody is ready, or where steps count and are at their bound.
+
+Steps count in all nodes or in none: two orders that lead to one node may have done other numbers of steps, and who claims the
+timer's interrupt there can read them. So a search is made anew, with a bound of steps, where it comes to a state in which somebody has.
 
 A state comes by `suspend` from the image's start, and where a slice ends is read off `resume` from that state.
 """
@@ -47,21 +49,25 @@ class Node:
     file: str = ""  # of the machine's bytes, as long as the node isn't expanded
 
 
-def counts_steps(machine):
+class TimerClaimed(Exception):
+    """Somebody has claimed the timer's interrupt where steps don't count."""
+
+
+def has_timer(machine):
     return any(claim.number == TIMER_INTERRUPT for claim in machine.claims)
 
 
-def key_of(node):
-    """What tells this node from others."""
+def key_of(node, counts):
+    """What tells this node from others, where steps count or don't."""
     machine = node.machine
-    kept = dataclasses.replace(machine, cursor=(2, 2), steps=machine.steps if counts_steps(machine) else 0)
+    kept = dataclasses.replace(machine, cursor=(2, 2), steps=machine.steps if counts else 0)
     digest = hashlib.sha256(kept.to_bytes())
     return digest.digest(), node.console, tuple(event.text() for event in node.once)
 
 
 class Search:
-    def __init__(self, program, image, asked, folder):
-        self.program, self.image, self.asked, self.folder = program, image, asked, folder
+    def __init__(self, program, image, asked, folder, counts=False):
+        self.program, self.image, self.asked, self.folder, self.counts = program, image, asked, folder, counts
         self.files, self.slices = itertools.count(), 0
         self.nodes, self.endings = {}, []
         self.whole = True
@@ -88,16 +94,16 @@ class Search:
             file.write(data)
         return node
 
-    def bound(self, machine):
-        return self.asked.steps if counts_steps(machine) else MOST_STEPS
+    def bound(self):
+        return self.asked.steps if self.counts else MOST_STEPS
 
     def is_ending(self, node):
-        return not node.machine.ready() or node.machine.steps >= self.bound(node.machine)
+        return not node.machine.ready() or node.machine.steps >= self.bound()
 
     def slice_of(self, node, who):
         """The node behind a slice of this thread."""
         machine = node.machine
-        most = min(self.asked.quantum, self.bound(machine) - machine.steps)
+        most = min(self.asked.quantum, self.bound() - machine.steps)
         pick = events.Event(0, "pick", who)
         told = self.run("resume", node.file, [pick, events.tick(most)], MOST_STEPS).decode().splitlines()
         records = [decode.record_of(line) for line in told]
@@ -114,7 +120,9 @@ class Search:
 
     def meet(self, node):
         """Whether this node is a new one."""
-        key = key_of(node)
+        if has_timer(node.machine) and not self.counts:
+            raise TimerClaimed
+        key = key_of(node, self.counts)
         if key in self.nodes or len(self.nodes) >= self.asked.states:
             self.whole = self.whole and key in self.nodes
             if os.path.exists(node.file) and key not in self.nodes:
@@ -133,6 +141,13 @@ class Search:
         return jobs + [pool.submit(self.after_event, node, event) for event in node.once]
 
     def search(self):
+        """This search, or where it comes to need one that counts steps, that one."""
+        try:
+            return self.search_nodes()
+        except TimerClaimed:
+            return Search(self.program, self.image, self.asked, self.folder, counts=True).search_nodes()
+
+    def search_nodes(self):
         first = self.visited(Node(list(self.asked.first), 0, b"", self.asked.once))
         with ThreadPoolExecutor(WORKERS) as pool:
             level = [first] if self.meet(first) else []

@@ -17,14 +17,8 @@ use xk_ports::SwapStore;
 mod exchange;
 mod first_pages;
 mod first_run;
-mod known;
-mod loans;
-mod user;
-mod windows;
 
 const PID: Pid = Pid(2);
-
-const READ: Right = Right { w: false, x: false };
 
 const WRITE: Right = Right { w: true, x: false };
 
@@ -92,9 +86,4 @@ fn booted<W: SwapStore>(alloc: Global, store: W) -> Result<Memory<W>, BootFault<
     file[55] = 0x00;
     file[87] = 0xEF;
     Memory::boot(alloc, &plan, &file, store)
-}
-
-// Lets all go but the store.
-fn end<W: SwapStore>(memory: Memory<W>) -> W {
-    memory.close()
 }

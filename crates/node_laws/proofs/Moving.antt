@@ -2,4 +2,5 @@ pub mod EventLemmas
 pub mod NodeLemmas
 pub mod PathLemmas
 pub mod PlayLemmas
+pub mod SearchLemmas
 pub mod SeenLemmas

@@ -3,3 +3,4 @@ pub mod Endings
 pub mod Moves
 pub mod Nodes
 pub mod Orders
+pub mod Searches

@@ -4,12 +4,13 @@
 
 mod moves;
 
-pub use moves::Move;
-
 ghost use Rattle.node_laws.specs.Counts.{SliceForgetsCount, StepForgetsCount};
 ghost use Rattle.node_laws.specs.Endings.{NodesAreSeenAlike};
 ghost use Rattle.node_laws.specs.Nodes.{NodesLeadAlike};
 ghost use Rattle.node_laws.specs.Orders.{OrdersArePaths, OrdersArePlayed};
+ghost use Rattle.node_laws.specs.Searches.{OrdersAreTold, PathsAreOrders, ToldAreOrders};
+
+pub use moves::{Move, Note};
 
 /// **A step forgets the count.** Where nobody has claimed the timer's interrupt, a step from the same state with another count of steps
 /// does the same, but for the number in its records and the new count.
@@ -44,7 +45,23 @@ pub fn orders_are_paths()
 {}
 
 /// **All points of a node are seen alike**: the bytes of the console, which processes live, and what their threads are about.
-#[tactic(auto, using(crate::proofs::Moving::SeenLemmas::nodes_are_seen_alike))]
 pub fn nodes_are_seen_alike()
     ensures { NodesAreSeenAlike }
+{}
+
+/// **Each path of nodes is an order**, and leads to a point of the node to which it leads.
+pub fn paths_are_orders()
+    ensures { PathsAreOrders }
+{}
+
+/// **What a search tells is so.** The labels on the way to a node that is told are an order, which leads to a point of it, and the note
+/// tells whether the order ends there.
+pub fn told_are_orders()
+    ensures { ToldAreOrders }
+{}
+
+/// **A whole search leaves no order out.** Each order from the start leads to a point of a node that is told, by no longer order, and is
+/// noted as an ending where it is one.
+pub fn orders_are_told()
+    ensures { OrdersAreTold }
 {}

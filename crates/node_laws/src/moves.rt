@@ -10,3 +10,12 @@ pub enum Move {
     /// The event of this number comes, of those that may come once.
     Once(u32),
 }
+
+/// What a search notes of a node whose moves it followed.
+#[derive(Clone, Copy, Debug, PartialEq, Eq)]
+pub enum Note {
+    /// Orders go on there.
+    Inner,
+    /// Orders end there.
+    Ending,
+}

@@ -3,3 +3,4 @@ pub mod FootprintLemmas
 pub mod GoingLemmas
 pub mod NearingLemmas
 pub mod RoundLemmas
+pub mod StarveLemmas

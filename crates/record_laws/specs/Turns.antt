@@ -1,17 +1,24 @@
 -- Turns over a run: whose turn it is, and how the turns go round the circle of threads. A thread that is Ready gets its turn before any
 -- other thread gets a second one, unless a pick or the handler of an interrupt takes a turn out of the order.
-use Rattle.std.specs.Prelude.{◌≡◌, ◌≢◌, ℕ, ◌<◌, ◌≤◌, ◌⊎◌, true, List, [], Some, slice_get}
+use Rattle.std.specs.Prelude.{◌≡◌, ◌≢◌, ℕ, ◌<◌, ◌≤◌, ◌⊎◌, true, false, List, [], replicate, Option, Some, None, slice_get}
 use Rattle.std.specs.Bool.{⊤}
 use Rattle.std.specs.List.{All}
+use Rattle.xk_base.specs.declared.events.Event.{Event}
 use Rattle.xk_base.specs.declared.ids.ThreadId.{ThreadId}
 use Rattle.xk_base.specs.declared.records.Rec.{Rec}
 use Rattle.xk_base.specs.declared.records.What.{What}
 use Rattle.xk_base.specs.declared.records.What.TheVariants.{Call, Reply, Retry, Byte, Fault, End, Irq, Gone}
+use Rattle.xk_base.specs.Tables.Circle.{same_thread}
 use Rattle.isolation_laws.specs.TwoRuns.{records_by}
+use Rattle.machine_history.specs.Interleaving.{picks_and_ticks}
+use Rattle.machine_model.specs.Hart.Atomics.{execute_at}
+use Rattle.machine_model.specs.Hart.Instructions.{Next}
 use Rattle.machine_model.specs.Runs.Moments.{Cause, ByStep, ByPick, ByIrq, ByKill, ByTurn, Moment, caused, state_at}
-use Rattle.machine_model.specs.State.Machine.{Machine}
+use Rattle.machine_model.specs.State.Machine.{Machine, Ready, Thread}
 use Rattle.machine_model.specs.State.Order.{actor, ready_at}
 use Rattle.machine_model.specs.State.Threads.{thread_id}
+use Rattle.machine_model.specs.State.Views.{memory_of}
+use Rattle.machine_model.specs.Stepping.Step.{ends_handler, ends_thread}
 
 -- ---- turns
 
@@ -95,3 +102,33 @@ pub record AreTurnsFair (start : Machine) (moments : List Moment) : Type 0 where
   pub step : (who other : ThreadId) (first second : ℕ) → IsWaitedFor who other start moments first second
       → IsTurnUsed other start moments first second
       → (k : ℕ) × (first < k) × (k < second) × DoesStep other start moments k
+
+-- ---- starved threads
+
+-- The thread is Ready, and jumps to itself: whatever it has reserved, and however many steps are done, its step leaves its registers
+-- and its pc.
+pub record Spins (who : ThreadId) (m : Machine) : Type 0 where
+  pub thread : Thread
+  pub there : m.threads who ≡ Some thread
+  pub ready : thread.state ≡ Ready
+  pub thread_goes_on : ends_thread who thread.pc ≡ false
+  pub handler_goes_on : ends_handler who thread.pc ≡ false
+  pub jumps : (reserved : Option ℕ) (steps : ℕ)
+      → (execute_at thread.regs thread.pc reserved (memory_of (record m { steps = steps }) who.pid)).executed
+      ≡ Next thread.regs thread.pc
+
+-- all the while a thread is Ready, and each step is that of another
+pub record IsStarvedBy (who other : ThreadId) (start : Machine) (moments : List Moment) : Type 0 where
+  pub ready : (i : ℕ) → ready_at (state_at start moments i) other ≡ true
+  pub steps : (i : ℕ) (moment : Moment) → slice_get moments i ≡ Some moment → moment.cause ≡ ByStep → HasTurn who (state_at start moments i)
+
+-- so many picks of the one thread, with a tick of one step behind each
+abbrev pub picks_of : ThreadId → ℕ → List Event
+picks_of who n = picks_and_ticks (replicate n who)
+
+-- a thread that spins, and another that is Ready
+pub record IsAtRisk (who other : ThreadId) (m : Machine) : Type 0 where
+  pub spins : Spins who m
+  pub unarmed : m.compare ≡ None
+  pub ready : ready_at m other ≡ true
+  pub apart : same_thread other who ≡ false

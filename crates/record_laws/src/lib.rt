@@ -12,4 +12,4 @@ pub use answered::{calls_are_answered_once, standings_follow};
 pub use record_order::records_stand_in_order;
 pub use replies::{calls_answer_who_waits, replies_are_due};
 pub use stuck::stuck_is_exactly_that;
-pub use turns::turns_are_fair;
+pub use turns::{picks_can_starve, turns_are_fair};

@@ -39,6 +39,7 @@ module _ {W : Type 0} (S : SwapStore W) where
     whole = λ _. refl;
     means = λ means. means;
     none = λ _. refl;
+    no_more = omega arith;
     size = refl;
     store = store_same (store_of m);
   }
@@ -51,6 +52,7 @@ module _ {W : Type 0} (S : SwapStore W) where
     whole = λ means. y.whole (x.means means) ∙ x.whole means;
     means = λ means. y.means (x.means means);
     none = λ none. y.none (ap none_out (x.none none) ∙ none) ∙ x.none none;
+    no_more = omega (arith, x.no_more, y.no_more);
     size = y.size ∙ x.size;
     store = store_both (store_of a) (store_of b) (store_of c) x.store y.store;
   }
@@ -66,6 +68,7 @@ module _ {W : Type 0} (S : SwapStore W) where
       size = x.size;
       store = x.store;
     };
+    no_more = x.no_more;
     none = x.none;
   }) at access
 

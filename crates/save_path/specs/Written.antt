@@ -6,7 +6,7 @@ use Rattle.ledger_model.specs.Loans.{bare}
 use Rattle.machine_model.specs.State.Machine.{Machine, Reservation}
 use Rattle.suspend_image.specs.Sheets.{SheetBytes, appended}
 use Rattle.suspend_image.specs.Spelling.{machine_bytes, rows_bytes, with_header}
-use Rattle.vm_memory.specs.Bytes.{MeansBytes, none_out}
+use Rattle.vm_memory.specs.Bytes.{MeansBytes, none_out, pages_out}
 use Rattle.vm_memory.specs.Memory.{ledger, size, store_of}
 use Rattle.vm_memory.specs.Sound.{IsSound}
 use Rattle.vm_memory.specs.declared.memory.Memory.{Memory}
@@ -47,6 +47,7 @@ pub record BringsPages {W : Type 0} (S : SwapStore W)
   pub whole : MeansBytes S old → ledger S.held new ≡ ledger S.held old
   pub means : MeansBytes S old → MeansBytes S new
   pub none : none_out old ≡ true → new ≡ old
+  pub no_more : pages_out new ≤ pages_out old
   pub size : size new ≡ size old
   pub store : KeepsStore S (store_of old) (store_of new)
 

@@ -14,8 +14,11 @@ struct Ring {
 
 impl Space for Ring {
     type Label = ();
+
     type Key = usize;
+
     type Note = ();
+
     type Fault = AllocError;
 
     ghost use Rattle.std.specs.Prelude.{Some};

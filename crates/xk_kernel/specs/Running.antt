@@ -56,8 +56,8 @@ thread_performed_where stands m who t =
 
 -- ONE INSTRUCTION OF THE THREAD, whatever stands in memory: the answer, the reservation and the machine but for the bytes of pages are
 -- what it makes of them. So it changes no other thread, and of its own no more than an instruction does.
-pub record RunsSome (m new : Machine) (who : ThreadId) (t : Thread) (reserved : Option ℕ) (answer : Ran) : Type 0 where
+pub record RunsSome (m new : Machine) (who : ThreadId) (t : Thread) (left : Option ℕ) (answer : Ran) : Type 0 where
   pub stands : Unknown
   pub answered : answer ≡ ran_of (thread_performed_where stands m who t).executed
   pub machine : without_bytes new ≡ without_bytes (machine_after who m (thread_performed_where stands m who t).executed)
-  pub reserved : reserved ≡ (thread_performed_where stands m who t).reserved
+  pub reserved : left ≡ (thread_performed_where stands m who t).reserved

@@ -1,7 +1,6 @@
-pub mod ResumeEndLemmas
+pub mod FileLemmas
 pub mod ResumeLemmas
-pub mod ResumeVerdictLemmas
+pub mod StateLemmas
 pub mod SuspendLemmas
 pub mod TopLemmas
 pub mod TrustLemmas
-pub mod VerdictLemmas

@@ -1,4 +1,5 @@
 pub mod Finish
+pub mod Headline
 pub mod Outcome
 pub mod Resumed
 pub mod SplitCalls
@@ -6,5 +7,4 @@ pub mod Splits
 pub mod StateFiles
 pub mod Status
 pub mod Summary
-pub mod SuspendedCalls
 pub mod Words

@@ -10,4 +10,6 @@ pub mod Check
 pub mod Convert
 pub mod Demo
 pub mod Ends
-pub mod Verdicts
+pub mod Known
+pub mod Says
+pub mod Fronts

@@ -6,7 +6,7 @@ use Rattle.xousim.specs.declared.status.Status.TheVariants.{Done, Usage, ReadFau
 use Rattle.xousim.specs.declared.status.Status.TheVariants.{SwapFault, NoMemory}
 use Rattle.xousim.specs.Outcome.Plays.{EndsPlay}
 use Rattle.xousim.specs.Outcome.Sides.{Call}
-use Rattle.xousim.specs.Outcome.Verdicts.{IsKnownPlay}
+use Rattle.xousim.specs.Outcome.Known.{IsKnownPlay}
 use Rattle.xousim.specs.Splits.{Setup}
 use Rattle.xousim.specs.Words.{Play}
 

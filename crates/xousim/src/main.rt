@@ -7,12 +7,12 @@ mod converted;
 mod matched;
 mod notes;
 mod resumed;
+mod saying;
 mod splits;
 mod status;
 #[cfg(test)]
 mod tests;
 mod top;
-mod verdict;
 
 pub use host_io::{ErrSink, FileHost, FileStore, StdSink};
 use host_io::{ProgramStore, RealDisk};

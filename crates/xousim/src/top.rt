@@ -1,9 +1,10 @@
 //! The top call: words in, a status and what the command tells out.
 
-ghost use Rattle.std.specs.Prelude.{◌≤◌};
+ghost use Rattle.std.specs.Prelude.{◌≤◌, IfSome};
 ghost use Rattle.xousim.specs.Outcome.Ends.{Ends};
+ghost use Rattle.xousim.specs.Outcome.Says.{HasFewSlots};
 ghost use Rattle.xousim.specs.Outcome.Sides.{Call, Notes, host_side, sink_side, store_side};
-ghost use Rattle.xousim.specs.Outcome.Verdicts.{IsComplete};
+ghost use Rattle.xousim.specs.Headline.{Headline};
 ghost use Rattle.xousim.specs.Status.{note_of};
 ghost use Rattle.xousim.specs.Words.{command_of};
 
@@ -34,6 +35,7 @@ fn run_words<H: Host, K: Sink, W: SwapStore>(
       store = store_side W.SwapStore store result.store;
       status = result.status;
     } in Ends (command_of words.now) call }
+    ensures few { IfSome (command_of words.now) HasFewSlots }
     ensures store { W.faults store ≤ W.faults result.store }
     ensures host { H.faults host.old ≤ H.faults host.new }
     ensures out { K.faults out.old ≤ K.faults out.new }
@@ -75,7 +77,7 @@ pub fn xous_main<H: Host, K: Sink, N: Sink, W: SwapStore>(
       out = sink_side K.Sink out.old out.new;
       store = store_side W.SwapStore store result.store;
       status = result.status;
-    } in Ends (command_of words.now) call × IsComplete (command_of words.now) call }
+    } in Ends (command_of words.now) call × Headline W.SwapStore (command_of words.now) call }
     ensures noted { Notes (sink_side N.Sink notes.old notes.new) (note_of result.status) }
     ensures store { W.faults store ≤ W.faults result.store }
     ensures host { H.faults host.old ≤ H.faults host.new }

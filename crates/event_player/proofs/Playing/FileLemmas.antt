@@ -7,12 +7,13 @@ use Rattle.event_player.specs.declared.ending.Ending.{Ending}
 use Rattle.event_player.specs.declared.ending.Ending.TheVariants.{Played}
 use Rattle.event_player.specs.declared.event_file.RunFault.TheVariants as faults
 use Rattle.event_player.specs.declared.events.PlayFault.TheVariants.{Write, Swap}
-use Rattle.event_player.specs.Gathering.{put}
+use Rattle.event_player.specs.Gathering.{Puts, put}
 use Rattle.event_player.specs.History.{history_of}
 use Rattle.event_player.specs.Playing.{EndsSo, FailsSo, IsNearAtEnd, Runs, run_from}
 use Rattle.host_io.specs.Reading.{IsTold}
 use Rattle.event_player.specs.Standing.{Stand}
-use Rattle.event_player.proofs.Playing.GatheringLemmas.{all_put, some_put}
+use Rattle.event_player.specs.Telling.{told}
+use Rattle.event_player.proofs.Playing.GatheringLemmas.{all_put, put_whole}
 use Rattle.event_player.proofs.Playing.EndingLemmas.{with_text}
 
 -- a run that begins where this stood on the sink, and stands where this does
@@ -43,7 +44,12 @@ module _ (tells : Telling) (limit : ℕ) (start : Machine) (begun out left left_
     file = is_file;
     exact = λ trusted.
         let all = stops.exact more may trusted in
-        record { some = some_put tells begun out limit (λ done. history_of (input_of (taken ++ more)) done start) all.some; soon = all.soon };
+        let text : List ℕ = told tells (history_of (input_of (taken ++ more)) all.some.done start).records in
+        let puts : Puts begun out text = put_whole begun out text all.some.gathered in
+        record {
+          some = record { done = all.some.done; within = all.some.within; met = all.some.met; written = puts.grown; still = puts.still };
+          soon = all.soon;
+        };
     full = stops.full more may;
     silent = stops.silent;
   }

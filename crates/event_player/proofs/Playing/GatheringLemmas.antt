@@ -7,10 +7,10 @@ use Rattle.host_io.proofs.ToldLemmas.{left_longer}
 use Rattle.event_player.specs.declared.telling.Telling.{Telling}
 use Rattle.event_player.specs.declared.telling.Telling.TheVariants.{Ledger, Nothing, Run, Trace}
 use Rattle.event_player.specs.declared.ending.Ending.{Ending}
-use Rattle.event_player.specs.Gathering.{Gathered, Gathers, GathersPart, GathersSome, Puts, StaysSilent, Text, put, text}
+use Rattle.event_player.specs.Gathering.{Gathered, Gathers, GathersPart, Puts, StaysSilent, Text, put, text}
 use Rattle.event_player.specs.History.{History}
 use Rattle.event_player.specs.Telling.{is_silent, told}
-use Rattle.event_player.specs.Writing.{Wrote, WroteSome}
+use Rattle.event_player.specs.Writing.{Wrote}
 
 -- ---- what is put
 
@@ -96,7 +96,7 @@ gathers_unput before out after held xs first front = (
 )
 
 -- where all was put before and after, what was told was written
-put_whole : (before after : Option (List ℕ)) (all : List ℕ) → Gathers (put before) (put after) all → Puts before after all
+pub put_whole : (before after : Option (List ℕ)) (all : List ℕ) → Gathers (put before) (put after) all → Puts before after all
 put_whole before after all gathered =
     let P : List ℕ → Type 0 = λ text. Puts before after text in subst P (sym (gathered.cut ∙ append-nil gathered.front)) gathered.puts
 
@@ -105,12 +105,6 @@ pub all_put : (tells : Telling) (before after : Option (List ℕ)) (h : History)
 all_put tells before after h ending gathered =
     let puts : Puts before after (told tells h.records) = put_whole before after (told tells h.records) gathered.1 in
     record { ended = gathered.0; written = puts.grown; still = puts.still }
-
-pub some_put : (tells : Telling) (before after : Option (List ℕ)) (limit : ℕ) (h : ℕ → History) → GathersSome tells (put before) (put after) limit h
-    → WroteSome tells before after limit h
-some_put tells before after limit h some =
-    let puts : Puts before after (told tells (h some.done).records) = put_whole before after (told tells (h some.done).records) some.gathered in
-    record { done = some.done; within = some.within; met = some.met; written = puts.grown; still = puts.still }
 
 -- ---- where nothing is told as records come
 

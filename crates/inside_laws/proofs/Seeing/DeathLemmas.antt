@@ -29,31 +29,31 @@ use Rattle.inside_laws.proofs.Seeing.LedgerStepLemmas.{Handed, Shown, Source, So
 use Rattle.inside_laws.proofs.Seeing.ShownLemmas.{loan_shows, shows, shows_home, shows_orphan, shows_page}
 
 module _ (pid : Pid) (m : Machine) where
-  abbrev own : ℕ → Bool
+  abbrev pub own : ℕ → Bool
   own n = is_server_of pid (m.servers n)
 
-  abbrev shut : Machine
+  abbrev pub shut : Machine
   shut = (servers_closed pid m).machine
 
-  abbrev taken : Machine
+  abbrev pub taken : Machine
   taken = senders_queued_gone pid shut
 
-  abbrev senderless : Machine
+  abbrev pub senderless : Machine
   senderless = senders_held_gone pid taken
 
-  abbrev ended : Number → Bool
+  abbrev pub ended : Number → Bool
   ended = is_message_at own m
 
-  abbrev unqueued : Number → Bool
+  abbrev pub unqueued : Number → Bool
   unqueued = is_queued_from pid shut
 
-  abbrev orphaned : Number → Bool
+  abbrev pub orphaned : Number → Bool
   orphaned = is_held_from pid taken
 
   abbrev dead : Ledger
   dead = (death pid m).machine.ledger
 
-  orphans_of_death : OnlyOrphans m.ledger (death pid m).machine.ledger
+  pub orphans_of_death : OnlyOrphans m.ledger (death pid m).machine.ledger
   unfolding death servers_closed closed senders_queued_gone senders_held_gone forgotten
   orphans_of_death =
       orphans_then m.ledger shut.ledger (forgotten pid senderless).ledger (end_loans_orphans ended m.ledger)
@@ -64,7 +64,7 @@ module _ (pid : Pid) (m : Machine) where
 
   module _ (group : Group) (h : HasLoans m) where
     -- what is on loan to its servers it holds
-    own_held : (p : Place) (loan : PageLoan) → loan_at m.ledger p ≡ Some loan → ended loan.number ≡ true → loan.holder.pid.0 ≡ pid.0
+    pub own_held : (p : Place) (loan : PageLoan) → loan_at m.ledger p ≡ Some loan → ended loan.number ≡ true → loan.holder.pid.0 ≡ pid.0
     own_held p loan there e =
         let at = at_servers m h own p loan there e in
         ap (λ (x : Pid). x.0) at.4 ∙ eqb-true at.1.pid.0 pid.0 (sym (ap (is_server_of pid) at.2) ∙ at.3)
@@ -73,12 +73,12 @@ module _ (pid : Pid) (m : Machine) where
     still_there n server true e = absurd (none-some server e)
     still_there n server false e = e
 
-    was_there : (n : ℕ) (server : Server) → shut.servers n ≡ Some server → m.servers n ≡ Some server
+    pub was_there : (n : ℕ) (server : Server) → shut.servers n ≡ Some server → m.servers n ≡ Some server
     unfolding servers_closed closed
     was_there n server e = still_there n server (own n) e
 
     -- what is on loan by messages that it has queued is of its pages
-    queued_home : (p : Place) (loan : PageLoan) → loan_at m.ledger p ≡ Some loan → unqueued loan.number ≡ true → p.pid.0 ≡ pid.0
+    pub queued_home : (p : Place) (loan : PageLoan) → loan_at m.ledger p ≡ Some loan → unqueued loan.number ≡ true → p.pid.0 ≡ pid.0
     queued_home p loan there e =
         let at = some_server shut (λ n server. list_any (λ x. is_of_number loan.number x && is_sent_from pid x) server.queued) e in
         let place = listed_at (λ x. is_of_number loan.number x && is_sent_from pid x) at.1.queued at.3 in

@@ -237,7 +237,7 @@ module _ (group : Group) where
     carried : (b : Bool) (x : Bool) → b ≡ true → b && x ≡ false → x ≡ false
     carried b x e f = sym (ap (λ c. c && x) e) ∙ f
 
-    to_free : sends_pages w ≡ true → sends_pages w && is_none (arrival m w) ≡ false
+    pub to_free : sends_pages w ≡ true → sends_pages w && is_none (arrival m w) ≡ false
         → HasNoHome m.ledger (sent_place m w (unwrap_or (arrival m w) (record { 0 = 0 }))) many
     unfolding arrival
     to_free carries e =
@@ -303,7 +303,7 @@ module _ (group : Group) where
       (λ none. unless_retried_after m (sent_over m w) (is_full_for m w) (meant m (sent_to_row m w)) (sent_to_after m w none))
 
   -- the first tests of a longer list
-  first_none : (a b : List (Bool × XousError)) → first_refusal (a ++ b) ≡ None → first_refusal a ≡ None
+  pub first_none : (a b : List (Bool × XousError)) → first_refusal (a ++ b) ≡ None → first_refusal a ≡ None
   first_none [] b e = refl
   first_none ((true, error) ∷ a) b e = e
   first_none ((false, error) ∷ a) b e = first_none a b e
@@ -316,18 +316,18 @@ module _ (group : Group) where
   -- ---- messages that are held
 
   -- the message that a server of the caller's process holds
-  record IsHeld (m : Machine) (test : Message → Bool) (message : Message) : Type 0 where
-    serial : ℕ
-    server : Server
-    live : m.servers serial ≡ Some server
-    own : server.pid.0 ≡ m.cursor.pid.0
-    index : ℕ
-    default : Message
-    low : index < length server.held
-    at : get_or server.held index default ≡ message
-    passes : test message ≡ true
+  pub record IsHeld (m : Machine) (test : Message → Bool) (message : Message) : Type 0 where
+    pub serial : ℕ
+    pub server : Server
+    pub live : m.servers serial ≡ Some server
+    pub own : server.pid.0 ≡ m.cursor.pid.0
+    pub index : ℕ
+    pub default : Message
+    pub low : index < length server.held
+    pub at : get_or server.held index default ≡ message
+    pub passes : test message ≡ true
 
-  held_is : (m : Machine) (test : Message → Bool) (x : Message) → held_by_caller m test ≡ Some x → IsHeld m test x
+  pub held_is : (m : Machine) (test : Message → Bool) (x : Message) → held_by_caller m test ≡ Some x → IsHeld m test x
   unfolding holder_of
   held_is m test x e = go (least_below m.next_serial mine) refl e
     where
@@ -359,7 +359,7 @@ module _ (group : Group) where
           (m.servers n) refl r
 
   -- its loan is held by the caller's process
-  caller_holds : (m : Machine) → HasLoans m → (number : Number) (test : Message → Bool) → ((x : Message) → test x ≡ true → is_lend_of number x ≡ true)
+  pub caller_holds : (m : Machine) → HasLoans m → (number : Number) (test : Message → Bool) → ((x : Message) → test x ≡ true → is_lend_of number x ≡ true)
       → (x : Message) → held_by_caller m test ≡ Some x → AreHeld group m.cursor.pid (λ k. same_number k number) m.ledger
   caller_holds m h number test lends x e p loan there is =
       let held : IsHeld m test x = held_is m test x e in
@@ -369,7 +369,7 @@ module _ (group : Group) where
       (ap (is_lend_of number) held.at ∙ lends x held.passes) in
       ap (λ (k : Pid). k.0) its.holder ∙ held.own
 
-  is_there : (o : Option Message) → is_none o ≡ false → (x : Message) × (o ≡ Some x)
+  pub is_there : (o : Option Message) → is_none o ≡ false → (x : Message) × (o ≡ Some x)
   is_there None e = absurd (false≢true (sym e))
   is_there (Some x) e = (x, refl)
 
@@ -405,11 +405,11 @@ module _ (group : Group) where
 
   -- ---- servers and processes that end
 
-  own_server : (m : Machine) (o : Option Serial) → is_own m o ≡ true → is_server_of m.cursor.pid (m.servers (unwrap_or o (serial_of 0)).0) ≡ true
+  pub own_server : (m : Machine) (o : Option Serial) → is_own m o ≡ true → is_server_of m.cursor.pid (m.servers (unwrap_or o (serial_of 0)).0) ≡ true
   own_server m None e = absurd (false≢true e)
   own_server m (Some serial) e = e
 
-  this_held : (m : Machine) (serial : Serial) → HasLoans m → is_server_of m.cursor.pid (m.servers serial.0) ≡ true
+  pub this_held : (m : Machine) (serial : Serial) → HasLoans m → is_server_of m.cursor.pid (m.servers serial.0) ≡ true
       → AreHeld group m.cursor.pid (is_message_at (λ n. n == serial.0) m) m.ledger
   this_held m serial h own p loan there e =
       let at = at_servers m h (λ n. n == serial.0) p loan there e in

@@ -1,10 +1,12 @@
 //! The image of the first run, booted: its pages against its file.
 
+ghost use Rattle.ledger_model.specs.Loans.{IsFresh, loans};
 ghost use Rattle.std.specs.Prelude.{◌≤◌, ◌<◌, length, IfOk};
-ghost use Rattle.vm_memory.specs.Memory.{IsUsable};
+ghost use Rattle.vm_memory.specs.Memory.{IsUsable, ledger};
 ghost use Rattle.vm_memory.specs.Sound.{IsSound};
+ghost use Rattle.xk_base.specs.declared.ids.Number.{Number};
 
-use super::{PID, end};
+use super::PID;
 use crate::expecting::expect;
 use boot_plan::plan;
 use kernel_args::read_args;
@@ -33,10 +35,12 @@ const FIRST_PAGES: [u32; 10] = [
 ];
 
 // The memory of an image.
+#[tactic(auto, using(vm_memory::proofs::Booting::FirstLoanLemmas::first_fresh))]
 fn image_memory<W: SwapStore>(alloc: Global, image: &[u8], store: W) -> Result<Memory<W>, W>
     requires few { length image.now ≤ 67108864 }
     ensures sound { IfOk result (λ m. IsSound W.slot_count m) }
     ensures usable { IfOk result (λ m. IsUsable m) }
+    ensures no_loan { IfOk result (λ m. (number : Number) → IsFresh (loans (ledger W.held m)) number) }
 {
     let Ok(args) = read_args(alloc, image) else {
         return Err(store);
@@ -84,7 +88,7 @@ fn pages_of_the_first_run(rt: HostRuntime) {
     match image_memory(rt.alloc(), &FIRST_IMAGE, SureStore::new()) {
         Ok(memory) => {
             pages(&rt, &memory);
-            let _ = end(memory);
+            let _ = memory.close();
         }
         Err(_) => expect(&rt, false),
     }

@@ -16,6 +16,7 @@ use Rattle.xousim.specs.declared.status.Status.TheVariants.{Done, Usage, ReadFau
 use Rattle.event_player.specs.History.{History, run_of}
 use Rattle.xousim.specs.Outcome.Images.{Boots, IsSoundImage, Refuses, plan_in}
 use Rattle.xousim.specs.Outcome.Plays.{EndsPlay, EndsPlayed, HasCause, Ran, Tells}
+use Rattle.xousim.specs.Outcome.Says.{status_of}
 use Rattle.xousim.specs.Outcome.Sides.{Call, HostRose, StoreSide}
 use Rattle.xousim.specs.Outcome.Starts.{Booted, Stops, booted_of}
 use Rattle.host_io.specs.Reading.{IsFile}
@@ -24,12 +25,6 @@ use Rattle.xousim.specs.Splits.{Setup, SplitOneCapacity}
 use Rattle.event_player.specs.Telling.{output}
 use Rattle.xousim.specs.Words.{Play}
 use Rattle.xousim.proofs.Splitting.SplitLemmas.{splits_play_alike}
-
--- the status of a history that ends so
-abbrev status_of : ℕ → Ending → Status
-status_of limit Played = Done
-status_of limit LimitMet = StepLimit limit
-status_of limit (BadLine line) = EventFault line
 
 -- the setup boots a machine, on which the events were played to an end, and all that is told of that was written
 record PlayedOut (setup : Setup) (events : List ℕ) (play : Play) (call : Call) : Type 0 where

@@ -12,6 +12,7 @@ bytes-requires-clause-may g c =
       whole = c.in_ok-reach.ensures.whole;
       means = c.in_ok-reach.ensures.means;
       none = c.in_ok-reach.ensures.none;
+      no_more = c.in_ok-reach.ensures.no_more;
       size = c.in_ok-reach.ensures.size;
       store = c.in_ok-reach.ensures.store;
     }) c.args.at Load ∙ c.requires.may

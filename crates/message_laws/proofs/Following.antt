@@ -1,0 +1,15 @@
+pub mod CountLemmas
+pub mod EndLemmas
+pub mod ForwardLemmas
+pub mod KeepLemmas
+pub mod LostLemmas
+pub mod ReceiveLemmas
+pub mod ReturnLemmas
+pub mod SayLemmas
+pub mod SendLemmas
+pub mod TableLemmas
+pub mod ToldLemmas
+pub mod ServedLemmas
+pub mod StandLemmas
+pub mod StepLemmas
+pub mod TellLemmas

@@ -1,0 +1,12 @@
+use Rattle.message_laws.proofs.Following.LostLemmas.{history_loses_nothing, run_loses_nothing, stands_once}
+use Rattle.message_laws.proofs.deliveries.nothing_is_lost.Goals as goal
+
+-- src/deliveries.rt
+pub returns-clause-stands : goal.returns-clause-stands
+returns-clause-stands c = stands_once
+
+pub returns-clause-runs : goal.returns-clause-runs
+returns-clause-runs c = run_loses_nothing
+
+pub returns-clause-histories : goal.returns-clause-histories
+returns-clause-histories c = history_loses_nothing

@@ -1,0 +1,4 @@
+pub mod Accepting
+pub mod DeliveredOnce
+pub mod Following
+pub mod NothingLost

@@ -1,0 +1,14 @@
+pub mod AnswerLemmas
+pub mod BroughtLemmas
+pub mod CallLemmas
+pub mod DeathLemmas
+pub mod HistoryLemmas
+pub mod LedgerLemmas
+pub mod OrphanLemmas
+pub mod OtherLemmas
+pub mod PageLemmas
+pub mod PartLemmas
+pub mod PlainPartLemmas
+pub mod ServerLemmas
+pub mod StepLemmas
+pub mod ThreadLemmas

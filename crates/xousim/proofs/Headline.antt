@@ -1,0 +1,4 @@
+pub mod CommandLemmas
+pub mod LawLemmas
+pub mod OnceLemmas
+pub mod RunLemmas
