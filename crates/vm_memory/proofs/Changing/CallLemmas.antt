@@ -42,6 +42,10 @@ none_out-slots m none s = elim (cases_Option (infos m.owners (Slot s))) [
       absurd (both_ways (is_some (infos m.owners (Slot s))) each (ap is_some used.1))
 ]
 
+pub none_used : {W : Type 0} (m : Memory W) → none_out m ≡ true → used_slots m.owners ≡ 0
+unfolding none_out
+none_used m none = eqb-true (used_slots m.owners) 0 none
+
 pub slots-none_out : {W : Type 0} (m : Memory W) → ((s : SlotNumber) → infos m.owners (Slot s) ≡ None) → none_out m ≡ true
 unfolding none_out
 slots-none_out m free = ap (λ k. k == 0) (count_below-none (extent m.owners).slots (λ k. is_some (infos m.owners (slot_seat k)))
