@@ -9,7 +9,6 @@ use Rattle.phys_pages.specs.declared.infos.Seat.TheVariants.{Slot}
 use Rattle.phys_pages.specs.Owners.{OwnerTable, extent, infos, slot_seat}
 use Rattle.phys_pages.proofs.OwnerLemmas.{infos-within}
 use Rattle.ledger_model.proofs.LedgerLemmas.{cases_Option}
-use Rattle.sv32_space.specs.Tie.{Held}
 use Rattle.vm_memory.specs.declared.memory.Memory.{Memory}
 use Rattle.vm_memory.specs.Bytes.{MeansBytes, is_known, none_out, pages_out, used_slots}
 use Rattle.xk_ports.specs.declared.store.SwapStore.{Ghosts as SwapStore}

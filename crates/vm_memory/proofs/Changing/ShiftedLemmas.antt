@@ -24,7 +24,7 @@ use Rattle.ledger_model.proofs.Stepping.WritingLemmas.{bare-pages}
 use Rattle.sv32_space.specs.Agreement.{HasUnusedFrame, procs_of}
 use Rattle.sv32_space.specs.PageChanges.{renamed_entry, with_info}
 use Rattle.sv32_space.specs.SpelledEntries.{entries}
-use Rattle.sv32_space.specs.Tie.{Held, agrees, bytes_at, ledger_in}
+use Rattle.sv32_space.specs.Tie.{agrees, bytes_at, ledger_in}
 use Rattle.sv32_space.specs.declared.sides.Entry.TheVariants.{At}
 use Rattle.sv32_space.specs.declared.sides.Side.{Side}
 use Rattle.loan_flags.specs.Keeping.{tables}
@@ -171,10 +171,6 @@ pub none_all_used : (table : Extent) (owners : OwnerTable) (o : Option FrameNumb
     → AreFramesUsed owners ((extent owners).first + (extent owners).frames)
 none_all_used table owners None used h = used
 none_all_used table owners (Some f) used h = absurd cc
-
-pub frame_used : (owners : OwnerTable) (o : Option FrameNumber) → IfNone o (AreFramesUsed owners ((extent owners).first + (extent owners).frames)) → is_some o ≡ false
-    → (f : FrameNumber) → HasSeat (extent owners) (Frame f) → is_some (infos owners (Frame f)) ≡ true
-frame_used owners o used h f within = none_all_used (extent owners) owners o used h f.0 within.0 within.1
 
 pub all_slots : (owners : OwnerTable) (o : Option SlotNumber) → IfNone o (AreSlotsUsed owners (extent owners).slots) → o ≡ None → AreSlotsUsed owners (extent owners).slots
 all_slots owners None used h = used

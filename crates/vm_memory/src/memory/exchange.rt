@@ -14,7 +14,6 @@ ghost use Rattle.sv32_space.specs.declared.sides.Entry.TheVariants.{At};
 ghost use Rattle.sv32_space.specs.declared.sides.Side.{Side};
 ghost use Rattle.vm_memory.specs.Bytes.{MeansBytesOver, is_out, none_out, pages_out, used_slots};
 ghost use Rattle.vm_memory.specs.Memory.{IsUsable, has_failed, ledger, processes, ram_of, store_of};
-ghost use Rattle.vm_memory.specs.Pages.Changing.{IsFreeFrame};
 ghost use Rattle.vm_memory.specs.Pages.Exchanging.{BringsIn, IsInFrame, MovesPages, slot_reached};
 ghost use Rattle.vm_memory.specs.Sound.{IsSound};
 ghost use Rattle.vm_memory.specs.Using.EntryAccess.{entry_target, is_given_target};
@@ -62,25 +61,6 @@ fn side_gives(side: Side, access: Access) -> bool
 }
 
 impl<W: SwapStore> Memory<W> {
-    // A free frame: that before the one at hand, which the last exchange left free, if it still is.
-    pub(crate) fn free_frame(&self) -> Frame
-        requires sound { IsSound W.slot_count self.now }
-        requires usable { IsUsable self.now }
-        ensures { IsFreeFrame self.now.owners result.0 }
-    {
-        let first = TABLE_FRAMES * self.procs;
-        if first < self.hand && self.hand <= self.ram.frames() {
-            let f = Frame(self.hand - 1);
-            if self.owners.info(Seat::Frame(f)).is_none() {
-                return f;
-            }
-        }
-        match self.owners.free_frame() {
-            Some(f) => f,
-            None => unreachable!(),
-        }
-    }
-
     // The frame, but not that one, whose page goes out: the search goes round from the one at hand.
     fn victim(&self, keep: Frame) -> Frame
         requires sound { IsSound W.slot_count self.now }

@@ -42,7 +42,7 @@ returns-then-has_free_frame-clause-moves g c = moved_in g.W.SwapStore c.args.sel
     (λ usable. c.has_free_frame.ensures.yes c.if-has_free_frame.true)
 
 pub returns-then-has_free_frame-clause-near : goal.returns-then-has_free_frame-clause-near
-returns-then-has_free_frame-clause-near g c = brought_near c.args.self.now c.bring.new.ram c.bring.new.owners
+returns-then-has_free_frame-clause-near g c = brought_near {E = Unit {0}} c.args.self.now c.bring.new.ram c.bring.new.owners
     (record c.args.self.now { ram = c.bring.new.ram; owners = c.bring.new.owners; store = c.bring.new.store; failed = false })
     c.args.from c.free_frame-f.result c.in_ok-bring.ensures.ok (Ok tt) (λ at side e. e)
 

@@ -1,10 +1,7 @@
-use Rattle.std.proofs.Common.{false, refl, ap, sym, ◌∙◌, ◌≡◌, ◌+◌, ◌≤◌, arith}
-use Rattle.std.proofs.lemmas.Bool.{false≢true}
-use Rattle.phys_pages.specs.Owners.{Extent, extent, infos}
-use Rattle.vm_memory.specs.Bytes.{is_known, none_out, used_slots}
-use Rattle.vm_memory.specs.Memory.{ledger}
+use Rattle.std.proofs.Common.{false, sym, ◌∙◌}
+use Rattle.phys_pages.specs.Owners.{extent, infos}
 use Rattle.vm_memory.proofs.Changing.CrowdedLemmas.{marked_ledger, marked_none}
-use Rattle.vm_memory.proofs.Changing.ShiftedLemmas.{all_slots, goes_out, left_free, found_room, frame_used, kept_seat, moved_in, none_all_used, one_out, over_splits, slot_left, some_room, some_slot_free, some_slot_within, stays_near, still_as_many, still_none, still_whole, unmoved}
+use Rattle.vm_memory.proofs.Changing.ShiftedLemmas.{all_slots, none_all_used, slot_left, some_room, some_slot_free, some_slot_within, unmoved}
 use Rattle.vm_memory.proofs.memory.Memory.make_room.Goals as goal
 
 pub unreachable-requires : goal.unreachable-requires

@@ -4,8 +4,7 @@ use Rattle.phys_pages.specs.Owners.{Extent, extent, infos}
 use Rattle.phys_pages.specs.declared.infos.Seat.TheVariants.{Frame}
 use Rattle.vm_memory.specs.Bytes.{is_known, none_out, used_slots}
 use Rattle.vm_memory.specs.Memory.{ledger}
-use Rattle.vm_memory.proofs.Changing.CrowdedLemmas.{marked_ledger, marked_none}
-use Rattle.vm_memory.proofs.Changing.ShiftedLemmas.{all_slots, goes_out, left_free, found_room, frame_used, kept_seat, moved_in, none_all_used, one_out, over_splits, slot_left, some_room, some_slot_free, some_slot_within, stays_near, still_as_many, still_none, still_whole, unmoved}
+use Rattle.vm_memory.proofs.Changing.ShiftedLemmas.{goes_out, left_free, found_room, kept_seat, moved_in, one_out, over_splits, stays_near, still_as_many, still_none, still_whole}
 use Rattle.vm_memory.proofs.memory.Memory.put_out.Goals as goal
 
 pub returns-in_err-evict-clause-moves : goal.returns-in_err-evict-clause-moves
