@@ -1,0 +1,5 @@
+pub mod ActLemmas
+pub mod EffectLemmas
+pub mod SliceLemmas
+pub mod StepLemmas
+pub mod VerdictLemmas

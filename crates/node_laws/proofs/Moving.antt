@@ -1,0 +1,5 @@
+pub mod EventLemmas
+pub mod NodeLemmas
+pub mod PathLemmas
+pub mod PlayLemmas
+pub mod SeenLemmas

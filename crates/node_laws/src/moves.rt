@@ -1,0 +1,12 @@
+//! What may come next in an order.
+
+use xk_base::ThreadId;
+
+/// A move of an order.
+#[derive(Clone, Copy, Debug, PartialEq, Eq)]
+pub enum Move {
+    /// A slice of this thread, which has so many steps.
+    Slice(ThreadId, u32),
+    /// The event of this number comes, of those that may come once.
+    Once(u32),
+}

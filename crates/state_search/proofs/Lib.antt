@@ -1,0 +1,5 @@
+pub mod ListLemmas
+pub mod MeetLemmas
+pub mod PathLemmas
+pub mod StepLemmas
+pub mod WholeLemmas
