@@ -107,8 +107,8 @@ histories_alike group plan one other events limit exchanged =
 
 pub outputs_alike : OutputsAreAlike
 outputs_alike group plan one other events limit exchanged = record {
-  output = λ tells. λ i. told tells (same.records i) ++ closed tells i;
-  ending = ends;
+  written = λ tells. λ i. told tells (same.records i) ++ closed tells i;
+  ended = ends;
 }
   where
     same : TellTheSameOutside group (history (input_of events).events limit (start plan one)) (history (input_of events).events limit (start plan other))

@@ -50,8 +50,8 @@ HistoriesAreAlike =
 
 -- what a command writes of an event file, and how the file ends
 pub record WriteAlike (plan : BootPlan) (one other events : List ℕ) (limit : ℕ) : Type 0 where
-  pub output : (tells : Telling) → output tells (run_of limit (start plan one) events) ≡ output tells (run_of limit (start plan other) events)
-  pub ending : (run_of limit (start plan one) events).ending ≡ (run_of limit (start plan other) events).ending
+  pub written : (tells : Telling) → output tells (run_of limit (start plan one) events) ≡ output tells (run_of limit (start plan other) events)
+  pub ended : (run_of limit (start plan one) events).ending ≡ (run_of limit (start plan other) events).ending
 
 abbrev pub OutputsAreAlike : Type 0
 OutputsAreAlike =

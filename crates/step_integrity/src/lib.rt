@@ -6,9 +6,9 @@ ghost use Rattle.step_integrity.specs.Causes.{AllKeepOthers, HistoriesKeepOthers
 ghost use Rattle.step_integrity.specs.KeptOthers.{CallKeepsOthers};
 
 /// **A call keeps what is another's.** Another process's thread is unchanged, or is answered with what the call brings or returns, or that
-/// the server is gone that it waits for; its life, heap and connections are unchanged, and so are its claims; its servers stay, and gain
-/// the message of the call, or lose those of a caller that dies; its pages stay with their rights and bytes, but for loans to the caller
-/// that end or go on, and a page or an orphan of the caller that comes.
+/// the server is gone that it waits for; its life, heap and connections are unchanged, and so are its claims and what is pending of them;
+/// its servers stay, and gain the message of the call, or lose those of a caller that dies; its pages stay with their rights and bytes, but
+/// for loans to the caller that end or go on, and a page or an orphan of the caller that comes.
 pub fn call_keeps_others()
     ensures { CallKeepsOthers }
 {}
