@@ -18,8 +18,8 @@ from dataclasses import dataclass
 
 import measure
 from calls import A0, A1, A2, A3, A4, ECALL, MOST, kills
-from pages import AT, STRIDE, add, lui
-from steps import COUNT, ENTRY, PAGE, PRODUCT, RAM_BYTES, ZERO, ZEROS, addi, bne, image, jal, lw, processor, sw
+from pages import lui, over_pages
+from steps import COUNT, ENTRY, PAGE, PRODUCT, RAM_BYTES, ZERO, addi, bne, image, jal, processor
 
 sys.path.insert(0, str(measure.TOP / "tools"))
 
@@ -90,19 +90,7 @@ def timed_steps(files):
 FULL_PROCESSES, FULL_ZEROS = 8, 4_064
 FULL_PAGES = FULL_PROCESSES * (FULL_ZEROS + 10)
 FULL_FRAMES = RAM_BYTES // PAGE - TABLE_FRAMES * FULL_PROCESSES - 1
-GOES_OVER = [
-    lui(STRIDE, PAGE),
-    lui(COUNT, PAGE),
-    addi(COUNT, COUNT, FULL_ZEROS - PAGE),
-    lui(AT, ZEROS),
-    lw(PRODUCT, AT, 0),
-    addi(PRODUCT, PRODUCT, 1),
-    sw(PRODUCT, AT, 0),
-    add(AT, AT, STRIDE),
-    addi(COUNT, COUNT, -1),
-    bne(COUNT, ZERO, -20),
-    jal(ZERO, -40),
-]
+GOES_OVER = over_pages(lui(COUNT, PAGE), addi(COUNT, COUNT, FULL_ZEROS - PAGE))
 ONE_ROUND = 4 + 6 * FULL_ZEROS
 
 

@@ -38,18 +38,21 @@ def add(rd, rs1, rs2):
     return rs2 << 20 | rs1 << 15 | rd << 7 | 0x33
 
 
-CODE = [
-    lui(STRIDE, PAGE),
-    lui(AT, ZEROS),
-    addi(COUNT, ZERO, LOOP_PAGES),
-    lw(PRODUCT, AT, 0),
-    addi(PRODUCT, PRODUCT, 1),
-    sw(PRODUCT, AT, 0),
-    add(AT, AT, STRIDE),
-    addi(COUNT, COUNT, -1),
-    bne(COUNT, ZERO, -20),
-    jal(ZERO, -32),
-]
+def over_pages(*counting):
+    """Adds one to a word of each page from ZEROS on, again and again. The instructions given load how many pages these are."""
+    begin = [*counting, lui(AT, ZEROS)]
+    one_page = [
+        lw(PRODUCT, AT, 0),
+        addi(PRODUCT, PRODUCT, 1),
+        sw(PRODUCT, AT, 0),
+        add(AT, AT, STRIDE),
+        addi(COUNT, COUNT, -1),
+        bne(COUNT, ZERO, -20),
+    ]
+    return [lui(STRIDE, PAGE), *begin, *one_page, jal(ZERO, -4 * len(begin + one_page))]
+
+
+CODE = over_pages(addi(COUNT, ZERO, LOOP_PAGES))
 
 
 class Run:

@@ -1,11 +1,11 @@
 -- Text on its way to a sink: what stands on the sink, and behind it what is gathered and not put yet.
-use Rattle.std.specs.Prelude.{◌≡◌, ◌≤◌, ℕ, List, [], ◌++◌, Option}
-use Rattle.xk_ports.specs.Told.{Grows, GrowsByPrefix}
+use Rattle.std.specs.Prelude.{◌≡◌, ◌≤◌, ℕ, true, List, [], ◌++◌, Option}
+use Rattle.xk_ports.specs.Told.{Grows, GrowsByProperPrefix}
 use Rattle.event_player.specs.declared.telling.Telling.{Telling}
 use Rattle.event_player.specs.declared.ending.Ending.{Ending}
 use Rattle.event_player.specs.declared.ending.Ending.TheVariants.{LimitMet}
 use Rattle.event_player.specs.History.{History}
-use Rattle.event_player.specs.Telling.{told}
+use Rattle.event_player.specs.Telling.{is_silent, told}
 
 -- what stands on the sink, where it is told, and what is held for it
 pub record Text : Type 0 where
@@ -30,15 +30,19 @@ pub record Gathers (before after : Text) (told : List ℕ) : Type 0 where
   pub cut : before.held ++ told ≡ front ++ after.held
   pub puts : Puts before.out after.out front
 
--- .. but the sink failed: of what was held and of these bytes a part from the front was put
+-- .. but the sink failed: of what was held and of these bytes a proper part from the front was put, so that some are left
 abbrev pub GathersPart : Text → Text → List ℕ → Type 0
-GathersPart before after told = GrowsByPrefix before.out after.out (before.held ++ told)
+GathersPart before after told = GrowsByProperPrefix before.out after.out (before.held ++ told)
+
+-- Where nothing is told as records come, and nothing was held, the sink wasn't touched and nothing is held, whatever the store did.
+abbrev pub StaysSilent : Telling → Text → Text → Type 0
+StaysSilent tells before after = is_silent tells ≡ true → before.held ≡ [] → after ≡ before
 
 -- what is told as the records of a history come, where it was played to this ending
 abbrev pub Gathered : Telling → Text → Text → History → Ending → Type 0
 Gathered tells before after h ending = (h.ending ≡ ending) × Gathers before after (told tells h.records)
 
--- .. a part from the front of that, where the sink failed
+-- .. a proper part from the front of that, where the sink failed
 abbrev pub GatheredPart : Telling → Text → Text → History → Type 0
 GatheredPart tells before after h = GathersPart before after (told tells h.records)
 

@@ -1,5 +1,5 @@
 -- The history of an event file: the kernel's history of its events, and why it ended there.
-use Rattle.std.specs.Prelude.{ℕ, List, Option, Some, None, if◌then◌else◌}
+use Rattle.std.specs.Prelude.{◌≡◌, ℕ, List, Option, Some, None, if◌then◌else◌}
 use Rattle.event_text.specs.EventFile.{Input, input_of}
 use Rattle.xk_base.specs.declared.records.Rec.{Rec}
 use Rattle.machine_model.specs.State.Machine.{Machine}
@@ -21,6 +21,12 @@ with_ending last h = record { records = h.records; machine = h.machine; ending =
 abbrev pub end_of : Option ℕ → Ending
 end_of None = Played
 end_of (Some line) = BadLine line
+
+-- How a run over a file may end, whatever its events do: with all lines, where none is bad; at its first bad line; or at the step limit.
+abbrev pub MayEnd : Input → Ending → Type 0
+MayEnd input Played = input.bad ≡ None
+MayEnd input (BadLine line) = input.bad ≡ Some line
+MayEnd input LimitMet = Unit {0}
 
 -- an event file: the history of the events before its first bad line, which ends at that line, or with the last event where there is none
 abbrev pub history_of : Input → ℕ → Machine → History

@@ -1,5 +1,5 @@
 -- Events are played while the bytes of their file come in.
-use Rattle.std.specs.Prelude.{◌≡◌, ◌⊎◌, ℕ, Bool, true, false, List, [], ◌++◌, Option, Some, None, Result, Ok, Err}
+use Rattle.std.specs.Prelude.{◌≡◌, ◌⊎◌, ◌+◌, ℕ, Bool, true, false, List, [], ◌++◌, Option, Some, None, Result, Ok, Err}
 use Rattle.event_text.specs.EventFile.{Input, input_of}
 use Rattle.event_text.specs.Held.{Reader}
 use Rattle.event_text.specs.Lines.{whole_lines}
@@ -9,7 +9,7 @@ use Rattle.xk_base.specs.declared.events.Event.TheVariants.{Tick}
 use Rattle.machine_model.specs.State.Machine.{Machine}
 use Rattle.machine_history.specs.History.{history, play}
 use Rattle.machine_history.specs.HistoryMoments.{event_moments, moments_of}
-use Rattle.xk_ports.specs.Told.{GrowsByPrefix, Consumes}
+use Rattle.xk_ports.specs.Told.{GrowsByProperPrefix, Consumes}
 use Rattle.event_player.specs.declared.telling.Telling.{Telling}
 use Rattle.event_player.specs.declared.ending.Ending.{Ending}
 use Rattle.event_player.specs.declared.ending.Ending.TheVariants as why
@@ -19,8 +19,8 @@ use Rattle.event_player.specs.declared.events.Advance.{Advance}
 use Rattle.event_player.specs.declared.events.Advance.TheVariants.{Played, Waits, Ended}
 use Rattle.event_player.specs.declared.events.PlayFault.{PlayFault}
 use Rattle.event_player.specs.declared.events.PlayFault.TheVariants.{Write, Swap}
-use Rattle.event_player.specs.Gathering.{Gathered, GatheredPart, Gathers, GathersSome, Text}
-use Rattle.event_player.specs.History.{history_of, with_ending}
+use Rattle.event_player.specs.Gathering.{Gathered, GatheredPart, Gathers, GathersSome, StaysSilent, Text}
+use Rattle.event_player.specs.History.{MayEnd, history_of, with_ending}
 use Rattle.event_player.specs.Rooms.{ComesFull}
 use Rattle.host_io.specs.Reading.{IsTold}
 use Rattle.event_player.specs.Standing.{Stand}
@@ -29,15 +29,20 @@ use Rattle.event_player.specs.Writing.{Wrote, WroteSome}
 
 -- ---- an event
 
--- The event was played, and exactly what is told of its records was put or is held; or a part from the front of that, where a write
+-- The store failed in a step of the event: what is told of so many of its steps was put or is held; and where no page was out before the
+-- event, some state up to the step behind them has more pages than there are frames for.
+pub record StopsIn (tells : Telling) (event : Event) (limit : ℕ) (old new : Stand) : Type 0 where
+  pub some : GathersSome tells old.text new.text limit (λ done. with_ending why.Played (play event done old.machine))
+  pub soon : old.near ≡ true → ComesFull old.room old.machine (event_moments event (some.done + 1) old.machine)
+
+-- The event was played, and exactly what is told of its records was put or is held; or a proper part from the front of that, where a write
 -- failed; or what is told of so many of its steps, where the store failed in the next.
 abbrev pub Comes : Telling → Event → ℕ → Stand → Stand → Result Ending PlayFault → Type 0
 Comes tells event limit old new (Ok ending) =
     Gathered tells old.text new.text (with_ending why.Played (play event limit old.machine)) ending
     × (new.machine ≡ (play event limit old.machine).machine)
 Comes tells event limit old new (Err Write) = GatheredPart tells old.text new.text (with_ending why.Played (play event limit old.machine))
-Comes tells event limit old new (Err Swap) =
-    GathersSome tells old.text new.text limit (λ done. with_ending why.Played (play event done old.machine))
+Comes tells event limit old new (Err Swap) = StopsIn tells event limit old new
 
 -- no page is out afterwards, and the store didn't fail
 abbrev pub StaysNear : Stand → Result Ending PlayFault → Type 0
@@ -45,13 +50,28 @@ StaysNear new (Ok ending) = new.near ≡ true
 StaysNear new (Err Write) = new.near ≡ true
 StaysNear new (Err Swap) = ⊥
 
+-- an event ends with its last step or at the limit, and at no line
+abbrev pub EndsAtNoLine : Result Ending PlayFault → Type 0
+EndsAtNoLine (Ok why.Played) = Unit {0}
+EndsAtNoLine (Ok why.LimitMet) = Unit {0}
+EndsAtNoLine (Ok (why.BadLine line)) = ⊥
+EndsAtNoLine (Err fault) = Unit {0}
+
+-- a command that tells nothing as records come touched nothing, unless a write failed
+abbrev pub KeepsSilence : Telling → Text → Text → Result Ending PlayFault → Type 0
+KeepsSilence tells before after (Ok ending) = StaysSilent tells before after
+KeepsSilence tells before after (Err Swap) = StaysSilent tells before after
+KeepsSilence tells before after (Err Write) = Unit {0}
+
 -- So it is where the kernel is trusted; and so it is without trust where no page was out, and none is then, unless some state of the
--- event has more pages than there are frames for.
+-- event has more pages than there are frames for. How it ends, and whether the sink is touched, never rests on trust.
 pub record Plays (tells : Telling) (event : Event) (limit : ℕ) (old new : Stand) (result : Result Ending PlayFault) : Type 0 where
   pub trusted : old.trusted ≡ true → Comes tells event limit old new result
   pub near : old.near ≡ true
       → (StaysNear new result × Comes tells event limit old new result)
       ⊎ ComesFull old.room old.machine (event_moments event limit old.machine)
+  pub ends : EndsAtNoLine result
+  pub silent : KeepsSilence tells old.text new.text result
 
 -- A tick of which so many steps were left was played on: whatever comes of the steps that are left then comes of all of them. A fault
 -- ends it.
@@ -91,28 +111,45 @@ pub record HasPlayed (run : Run) (taken : List ℕ) (reader : Reader) (now : Sta
   pub is_reader : (play_of calls).reader ≡ reader
   pub took : (play_of calls).taken ≡ taken
   pub reaches : Reaches run (play_of calls).answered now
+  pub silent : StaysSilent run.tells run.begun now.text
 
 -- a file that begins with these bytes, whatever bytes follow; none do once the end was said
 abbrev pub ForEach : List ℕ → Bool → (Input → Type 0) → Type 0
 ForEach taken finished P = (more : List ℕ) → (finished ≡ true → more ≡ []) → P (input_of (taken ++ more))
 
--- its history ended so, on this machine, and what is told as its records come was put or is held, where the kernel is trusted
-abbrev pub EndsSo : Run → List ℕ → Bool → Stand → Ending → Type 0
-EndsSo run taken finished now ending =
-    ForEach taken finished (λ input. now.trusted ≡ true
-    → Gathered run.tells run.begun now.text (history_of input run.limit run.start) ending
-    × (now.machine ≡ (history_of input run.limit run.start).machine))
+-- What the pages of the run hold is known where it stands: its kernel is trusted, or no state of the run over these events has more pages
+-- than there are frames for, so that no page is ever out.
+abbrev pub IsKnown : Run → Stand → Input → Type 0
+IsKnown run now input = (now.trusted ≡ true) ⊎ (¬ ComesFull now.room run.start (moments_of input.events run.limit run.start))
 
--- a part from the front of that was put, where a write failed; what is told of so many steps, where the store failed, and then, trusted
--- or not, some state has more pages than there are frames for
+-- The run ended so, as it may over such a file. Where what its pages hold is known, its history ended so, on this machine, and what is told
+-- as its records come was put or is held.
+pub record EndsSo (run : Run) (taken : List ℕ) (finished : Bool) (now : Stand) (ending : Ending) : Type 0 where
+  pub may : ForEach taken finished (λ input. MayEnd input ending)
+  pub exact : ForEach taken finished (λ input. IsKnown run now input
+      → Gathered run.tells run.begun now.text (history_of input run.limit run.start) ending
+      × (now.machine ≡ (history_of input run.limit run.start).machine))
+  pub silent : StaysSilent run.tells run.begun now.text
+
+-- What is told of so many steps of a run over such a file was put or is held, and some state up to the step behind them has more pages than
+-- there are frames for.
+pub record GathersSoon (run : Run) (now : Stand) (input : Input) : Type 0 where
+  pub some : GathersSome run.tells run.begun now.text run.limit (λ done. history_of input done run.start)
+  pub soon : ComesFull now.room run.start (moments_of input.events (some.done + 1) run.start)
+
+-- The store failed, and some state has more pages than there are frames for. Where the kernel is trusted, that is no later than in the step
+-- behind those of which is told.
+pub record StopsSo (run : Run) (taken : List ℕ) (finished : Bool) (now : Stand) : Type 0 where
+  pub exact : ForEach taken finished (λ input. now.trusted ≡ true → GathersSoon run now input)
+  pub full : ForEach taken finished (λ input. ComesFull now.room run.start (moments_of input.events run.limit run.start))
+  pub silent : StaysSilent run.tells run.begun now.text
+
+-- where a write failed, a proper part from the front of what is told of the history was put
 abbrev pub FailsSo : Run → List ℕ → Bool → Stand → PlayFault → Type 0
 FailsSo run taken finished now Write =
-    ForEach taken finished (λ input. now.trusted ≡ true
+    ForEach taken finished (λ input. IsKnown run now input
     → GatheredPart run.tells run.begun now.text (history_of input run.limit run.start))
-FailsSo run taken finished now Swap =
-    ForEach taken finished (λ input.
-    (now.trusted ≡ true → GathersSome run.tells run.begun now.text run.limit (λ done. history_of input done run.start))
-    × ComesFull now.room run.start (moments_of input.events run.limit run.start))
+FailsSo run taken finished now Swap = StopsSo run taken finished now
 
 -- where all events of the file were played, no page is out, unless some state has more pages than there are frames for
 abbrev pub IsNearAtEnd : Run → List ℕ → Bool → Stand → Type 0
@@ -132,32 +169,53 @@ Goes run taken finished reader now (Ok None) = HasPlayed run taken reader now
 Goes run taken finished reader now (Ok (Some ending)) = EndsSo run taken finished now ending
 Goes run taken finished reader now (Err fault) = FailsSo run taken finished now fault
 
--- after a whole file was played, no page is out, unless some state has more pages than there are frames for
-pub record LeavesNear (run : Run) (left : Option (List ℕ)) (now : Stand) : Type 0 where
+-- The file was played to this ending, as it may end. Where what the pages hold is known, this is how its history ended, and exactly what is
+-- told as its records come was written. After all events no page is out, unless some state has more pages than there are frames for.
+pub record PlaysOut (run : Run) (left : Option (List ℕ)) (now : Stand) (ending : Ending) : Type 0 where
   pub bytes : List ℕ
-  pub told : IsTold left bytes
-  pub near : (now.near ≡ true) ⊎ ComesFull now.room run.start (moments_of (input_of bytes).events run.limit run.start)
+  pub file : IsTold left bytes
+  pub may : MayEnd (input_of bytes) ending
+  pub exact : IsKnown run now (input_of bytes)
+      → Wrote run.tells run.begun.out now.text.out (history_of (input_of bytes) run.limit run.start) ending
+      × (now.machine ≡ (history_of (input_of bytes) run.limit run.start).machine)
+  pub near : ending ≡ why.Played
+      → (now.near ≡ true) ⊎ ComesFull now.room run.start (moments_of (input_of bytes).events run.limit run.start)
+  pub silent : StaysSilent run.tells run.begun now.text
 
--- What came of a file, by the bytes that were left of it before and after. Where the kernel is trusted, the history of all of it was
--- played and written; or, where a write failed, a part of it; or, where the store failed, so many steps of it; or, where a read failed,
--- the history of the whole lines that were read. Trusted or not, the store failed only where some state has more pages than there are
--- frames for.
+-- a write failed: a proper part from the front of what is told of the history was written
+pub record PlaysInPart (run : Run) (left : Option (List ℕ)) (now : Stand) : Type 0 where
+  pub bytes : List ℕ
+  pub file : IsTold left bytes
+  pub exact : IsKnown run now (input_of bytes)
+      → GrowsByProperPrefix run.begun.out now.text.out (told run.tells (history_of (input_of bytes) run.limit run.start).records)
+
+-- exactly what is told of so many steps was written, and some state up to the step behind them has more pages than there are frames for
+pub record WroteSoon (run : Run) (bytes : List ℕ) (now : Stand) : Type 0 where
+  pub some : WroteSome run.tells run.begun.out now.text.out run.limit (λ done. history_of (input_of bytes) done run.start)
+  pub soon : ComesFull now.room run.start (moments_of (input_of bytes).events (some.done + 1) run.start)
+
+-- The store failed: some state has more pages than there are frames for. Where the kernel is trusted, that is no later than in the step behind
+-- those of which exactly what is told was written.
+pub record PlaysSome (run : Run) (left : Option (List ℕ)) (now : Stand) : Type 0 where
+  pub bytes : List ℕ
+  pub file : IsTold left bytes
+  pub exact : now.trusted ≡ true → WroteSoon run bytes now
+  pub full : ComesFull now.room run.start (moments_of (input_of bytes).events run.limit run.start)
+  pub silent : StaysSilent run.tells run.begun now.text
+
+-- A read failed: of the bytes that were read no whole line is bad, and, where what the pages hold is known, the history of these lines was
+-- played and written.
+pub record PlaysLines (run : Run) (left left_after : Option (List ℕ)) (now : Stand) : Type 0 where
+  pub read : List ℕ
+  pub taken : Consumes left left_after read
+  pub may : MayEnd (input_of (whole_lines read)) why.Played
+  pub exact : IsKnown run now (input_of (whole_lines read))
+      → Wrote run.tells run.begun.out now.text.out (history_of (input_of (whole_lines read)) run.limit run.start) why.Played
+  pub silent : StaysSilent run.tells run.begun now.text
+
+-- What came of a file, by the bytes that were left of it before and after.
 abbrev pub Runs : Run → Option (List ℕ) → Option (List ℕ) → Stand → Result Ending RunFault → Type 0
-Runs run left left_after now (Ok ending) =
-    (bytes : List ℕ) × IsTold left bytes
-    × (now.trusted ≡ true
-    → Wrote run.tells run.begun.out now.text.out (history_of (input_of bytes) run.limit run.start) ending
-    × (now.machine ≡ (history_of (input_of bytes) run.limit run.start).machine))
-Runs run left left_after now (Err faults.Write) =
-    (bytes : List ℕ) × IsTold left bytes
-    × (now.trusted ≡ true
-    → GrowsByPrefix run.begun.out now.text.out (told run.tells (history_of (input_of bytes) run.limit run.start).records))
-Runs run left left_after now (Err faults.Swap) =
-    (bytes : List ℕ) × IsTold left bytes
-    × (now.trusted ≡ true
-    → WroteSome run.tells run.begun.out now.text.out run.limit (λ done. history_of (input_of bytes) done run.start))
-    × ComesFull now.room run.start (moments_of (input_of bytes).events run.limit run.start)
-Runs run left left_after now (Err faults.Read) =
-    (read : List ℕ) × Consumes left left_after read
-    × (now.trusted ≡ true
-    → Wrote run.tells run.begun.out now.text.out (history_of (input_of (whole_lines read)) run.limit run.start) why.Played)
+Runs run left left_after now (Ok ending) = PlaysOut run left now ending
+Runs run left left_after now (Err faults.Write) = PlaysInPart run left now
+Runs run left left_after now (Err faults.Swap) = PlaysSome run left now
+Runs run left left_after now (Err faults.Read) = PlaysLines run left left_after now

@@ -1,5 +1,5 @@
 -- What a command tells of a history: something as each record comes, and something at the end.
-use Rattle.std.specs.Prelude.{ℕ, List, [], ◌∷◌, ◌++◌}
+use Rattle.std.specs.Prelude.{ℕ, Bool, true, false, List, [], ◌∷◌, ◌++◌}
 use Rattle.std.specs.List.{flat_map}
 use Rattle.machine_model.specs.State.Machine.{Machine}
 use Rattle.trace_text.specs.declared.lines.EndWord.TheVariants as words
@@ -35,6 +35,13 @@ told_of Nothing rec = []
 -- .. of records in order
 abbrev pub told : Telling → List Rec → List ℕ
 told tells records = flat_map (told_of tells) records
+
+-- Nothing is told as records come: all that is told of a history is told at its end.
+abbrev pub is_silent : Telling → Bool
+is_silent Trace = false
+is_silent Run = false
+is_silent Ledger = true
+is_silent Nothing = true
 
 -- the last line; a history that ends at a bad line has none
 abbrev pub last_line : ℕ → Ending → List ℕ

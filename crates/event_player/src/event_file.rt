@@ -12,7 +12,7 @@ ghost use Rattle.xk_kernel.specs.Sound.{IsSound, IsUsable, Keeps};
 ghost use Rattle.xk_kernel.specs.State.{machine_of};
 ghost use Rattle.xk_ports.specs.declared.host.FileSlot.TheVariants.{First, Second};
 ghost use Rattle.event_player.specs.Gathering.{Text, put, text};
-ghost use Rattle.event_player.specs.Playing.{FailsSo, Goes, HasPlayed, IsNearAtEnd, LeavesNear, Run, Runs, run_from};
+ghost use Rattle.event_player.specs.Playing.{FailsSo, Goes, HasPlayed, IsNearAtEnd, Run, Runs, run_from};
 ghost use Rattle.host_io.specs.Reading.{IsTold};
 ghost use Rattle.event_player.specs.Standing.{Begins, Stand, stand};
 
@@ -204,10 +204,6 @@ pub fn play_file<H: Host, K: Sink, W: SwapStore>(
         let new = stand W.SwapStore kernel.new (put (K.written out.new)) in
         (start : Machine) → Begins start old
         → Runs (run_from tells limit start (put (K.written out.old))) (H.left host.old Second) (H.left host.new Second) new result }
-    ensures near { let old = stand W.SwapStore kernel.old (put (K.written out.old)) in
-        let new = stand W.SwapStore kernel.new (put (K.written out.new)) in
-        (start : Machine) → Begins start old → result ≡ Ok Ending.Played
-        → LeavesNear (run_from tells limit start (put (K.written out.old))) (H.left host.old Second) new }
     ensures sound { IsSound W.SwapStore kernel.new }
     ensures usable { OnOk result (IsUsable kernel.new) }
     ensures keeps { Keeps W.SwapStore kernel.old kernel.new }

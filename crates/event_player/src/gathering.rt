@@ -3,7 +3,7 @@
 ghost use Rattle.std.specs.Prelude.{◌≡◌, ◌≤◌, [], length, OnOk, OnErr};
 ghost use Rattle.event_player.specs.declared.gathering.TheConstants.{ROOM};
 ghost use Rattle.xk_base.specs.Outside.{Rose};
-ghost use Rattle.xk_ports.specs.Told.{GrowsByPrefix};
+ghost use Rattle.xk_ports.specs.Told.{GrowsByProperPrefix};
 ghost use Rattle.event_player.specs.Gathering.{Gathers, GathersPart, Puts, text};
 
 use arrayvec::ArrayVec;
@@ -20,7 +20,7 @@ pub type Held = ArrayVec<u8, ROOM>;
 pub fn put_held<K: Sink>(out: &mut K, held: &mut Held) -> Result<(), Failed>
     ensures put { OnOk result (Puts (K.written out.old) (K.written out.new) held.old.items) }
     ensures empty { OnOk result (held.new.items ≡ []) }
-    ensures front { OnErr result (GrowsByPrefix (K.written out.old) (K.written out.new) held.old.items) }
+    ensures front { OnErr result (GrowsByProperPrefix (K.written out.old) (K.written out.new) held.old.items) }
     ensures cause { OnErr result (Rose (K.faults out.old) (K.faults out.new)) }
     ensures never_falls { K.faults out.old ≤ K.faults out.new }
 {

@@ -5,7 +5,7 @@ ghost use Rattle.arrayvec.specs.ArrayVec.{array_vec_len};
 ghost use Rattle.xk_base.specs.Outside.{Rose};
 ghost use Rattle.xk_kernel.specs.Sound.{IsSound, IsUsable};
 ghost use Rattle.xk_kernel.specs.State.{machine_of};
-ghost use Rattle.xk_ports.specs.Told.{Grows, GrowsByPrefix};
+ghost use Rattle.xk_ports.specs.Told.{Grows, GrowsByProperPrefix};
 ghost use Rattle.event_player.specs.Table.{hold_text, kind_text, loan_text, message_text, orphan_line, orphans_text, page_line, pages_text};
 ghost use Rattle.event_player.specs.Table.{place_text, right_text, table_of};
 
@@ -120,7 +120,7 @@ fn held_line(place: Place, kind: LoanKind, number: Number) -> Line
 /// Writes the line of the page whose home the place is, if it is one.
 fn write_page<K: Sink>(place: Place, here: Here, out: &mut K) -> Result<(), Failed>
     ensures appended { OnOk result (Grows (K.written out.old) (K.written out.new) (page_line place here)) }
-    ensures front { OnErr result (GrowsByPrefix (K.written out.old) (K.written out.new) (page_line place here)) }
+    ensures front { OnErr result (GrowsByProperPrefix (K.written out.old) (K.written out.new) (page_line place here)) }
     ensures cause { OnErr result (Rose (K.faults out.old) (K.faults out.new)) }
     ensures never_falls { K.faults out.old ≤ K.faults out.new }
 {
@@ -137,7 +137,7 @@ fn write_page<K: Sink>(place: Place, here: Here, out: &mut K) -> Result<(), Fail
 /// Writes the line of the orphan that is held at the place, if one is.
 fn write_orphan<K: Sink>(place: Place, here: Here, out: &mut K) -> Result<(), Failed>
     ensures appended { OnOk result (Grows (K.written out.old) (K.written out.new) (orphan_line place here)) }
-    ensures front { OnErr result (GrowsByPrefix (K.written out.old) (K.written out.new) (orphan_line place here)) }
+    ensures front { OnErr result (GrowsByProperPrefix (K.written out.old) (K.written out.new) (orphan_line place here)) }
     ensures cause { OnErr result (Rose (K.faults out.old) (K.faults out.new)) }
     ensures never_falls { K.faults out.old ≤ K.faults out.new }
 {
@@ -159,7 +159,7 @@ fn write_pages<K: Sink, W: SwapStore>(kernel: &Kernel<W>, out: &mut K) -> Result
     requires sound { IsSound W.SwapStore kernel.now }
     requires usable { IsUsable kernel.now }
     ensures appended { OnOk result (Grows (K.written out.old) (K.written out.new) (pages_text (machine_of W.held kernel.now))) }
-    ensures front { OnErr result (GrowsByPrefix (K.written out.old) (K.written out.new) (pages_text (machine_of W.held kernel.now))) }
+    ensures front { OnErr result (GrowsByProperPrefix (K.written out.old) (K.written out.new) (pages_text (machine_of W.held kernel.now))) }
     ensures cause { OnErr result (Rose (K.faults out.old) (K.faults out.new)) }
     ensures never_falls { K.faults out.old ≤ K.faults out.new }
 {
@@ -175,7 +175,7 @@ fn write_orphans<K: Sink, W: SwapStore>(kernel: &Kernel<W>, out: &mut K) -> Resu
     requires sound { IsSound W.SwapStore kernel.now }
     requires usable { IsUsable kernel.now }
     ensures appended { OnOk result (Grows (K.written out.old) (K.written out.new) (orphans_text (machine_of W.held kernel.now))) }
-    ensures front { OnErr result (GrowsByPrefix (K.written out.old) (K.written out.new) (orphans_text (machine_of W.held kernel.now))) }
+    ensures front { OnErr result (GrowsByProperPrefix (K.written out.old) (K.written out.new) (orphans_text (machine_of W.held kernel.now))) }
     ensures cause { OnErr result (Rose (K.faults out.old) (K.faults out.new)) }
     ensures never_falls { K.faults out.old ≤ K.faults out.new }
 {
@@ -191,7 +191,7 @@ pub fn write_table<K: Sink, W: SwapStore>(kernel: &Kernel<W>, out: &mut K) -> Re
     requires sound { IsSound W.SwapStore kernel.now }
     requires usable { IsUsable kernel.now }
     ensures appended { OnOk result (Grows (K.written out.old) (K.written out.new) (table_of (machine_of W.held kernel.now))) }
-    ensures front { OnErr result (GrowsByPrefix (K.written out.old) (K.written out.new) (table_of (machine_of W.held kernel.now))) }
+    ensures front { OnErr result (GrowsByProperPrefix (K.written out.old) (K.written out.new) (table_of (machine_of W.held kernel.now))) }
     ensures cause { OnErr result (Rose (K.faults out.old) (K.faults out.new)) }
     ensures never_falls { K.faults out.old ≤ K.faults out.new }
 {

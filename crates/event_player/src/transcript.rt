@@ -2,7 +2,7 @@
 
 ghost use Rattle.std.specs.Prelude.{◌≡◌, ◌≤◌, true, OnOk, OnErr};
 ghost use Rattle.xk_base.specs.Outside.{Rose};
-ghost use Rattle.xk_ports.specs.Told.{Grows, GrowsByPrefix};
+ghost use Rattle.xk_ports.specs.Told.{Grows, GrowsByProperPrefix};
 ghost use Rattle.trace_text.specs.Lines.{line_of, end_line_of};
 ghost use Rattle.xk_kernel.specs.Sound.{IsSound, IsUsable};
 ghost use Rattle.xk_kernel.specs.State.{machine_of};
@@ -98,7 +98,7 @@ pub fn gather_records<K: Sink>(
 /// Writes the last line.
 fn write_end<K: Sink>(steps: u32, why: EndWord, out: &mut K) -> Result<(), Failed>
     ensures appended { OnOk result (Grows (K.written out.old) (K.written out.new) (end_line_of steps why)) }
-    ensures front { OnErr result (GrowsByPrefix (K.written out.old) (K.written out.new) (end_line_of steps why)) }
+    ensures front { OnErr result (GrowsByProperPrefix (K.written out.old) (K.written out.new) (end_line_of steps why)) }
     ensures cause { OnErr result (Rose (K.faults out.old) (K.faults out.new)) }
     ensures never_falls { K.faults out.old ≤ K.faults out.new }
 {
@@ -110,7 +110,7 @@ fn write_end<K: Sink>(steps: u32, why: EndWord, out: &mut K) -> Result<(), Faile
 /// Writes the last line of a history that ended in this way, if it has one.
 fn write_last_line<K: Sink>(ending: Ending, steps: u32, out: &mut K) -> Result<(), Failed>
     ensures appended { OnOk result (Grows (K.written out.old) (K.written out.new) (last_line steps ending)) }
-    ensures front { OnErr result (GrowsByPrefix (K.written out.old) (K.written out.new) (last_line steps ending)) }
+    ensures front { OnErr result (GrowsByProperPrefix (K.written out.old) (K.written out.new) (last_line steps ending)) }
     ensures cause { OnErr result (Rose (K.faults out.old) (K.faults out.new)) }
     ensures never_falls { K.faults out.old ≤ K.faults out.new }
 {
@@ -131,7 +131,7 @@ pub fn write_closing<K: Sink, W: SwapStore>(
     requires sound { IsSound W.SwapStore kernel.now }
     requires usable { IsUsable kernel.now }
     ensures appended { OnOk result (Grows (K.written out.old) (K.written out.new) (closing tells (machine_of W.held kernel.now) ending)) }
-    ensures front { OnErr result (GrowsByPrefix (K.written out.old) (K.written out.new)
+    ensures front { OnErr result (GrowsByProperPrefix (K.written out.old) (K.written out.new)
         (closing tells (machine_of W.held kernel.now) ending)) }
     ensures cause { OnErr result (Rose (K.faults out.old) (K.faults out.new)) }
     ensures never_falls { K.faults out.old ≤ K.faults out.new }

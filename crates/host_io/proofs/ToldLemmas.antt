@@ -1,9 +1,9 @@
 -- Growing and consuming, one piece after another.
-use Rattle.std.proofs.Common.{◌≡◌, ◌↔◌, ◌<◌, ◌≤◌, ◌+◌, ℕ, suc, List, [], ◌∷◌, ◌++◌, length, take, drop, get_or, Option, Some, None, Result, Ok, Err, OnErr, OnOk, refl, sym, ap, ◌∙◌, arith, append_assoc, append-nil, drop-cons}
+use Rattle.std.proofs.Common.{◌≡◌, ◌↔◌, ◌<◌, ◌≤◌, ◌+◌, ℕ, suc, List, [], ◌∷◌, ◌++◌, length, length-append, take, drop, get_or, Option, Some, None, Result, Ok, Err, OnErr, OnOk, refl, sym, ap, ◌∙◌, arith, append_assoc, append-nil, drop-cons}
 use Rattle.std.proofs.lemmas.Option.{none-some, same_Some}
 use Rattle.std.proofs.lemmas.List.{take-append-drop, take_more}
 use Rattle.std.proofs.lemmas.Grind.{common_steps, flat_map-append}
-use Rattle.xk_ports.specs.Told.{Grows, GrowsByPrefix, Consumes}
+use Rattle.xk_ports.specs.Told.{Grows, GrowsByProperPrefix, Consumes}
 use Rattle.xk_ports.proofs.ToldLemmas.{Grows-append}
 use Rattle.host_io.specs.Reading.{IsTold}
 
@@ -46,13 +46,19 @@ pub nothing_left : (left : Option (List ℕ)) (count : ℕ) → ((bytes : List �
 nothing_left None count end none = tt
 nothing_left (Some bytes) count end none = (end bytes refl).0 none
 
+-- a rest of one item or more has them with more behind it
+pub left_longer : (rest more : List ℕ) → 0 < length rest → 0 < length (rest ++ more)
+left_longer rest more some = omega (arith, length-append rest more, some)
+
 -- a front of what comes after
-pub prefix_after : (old mid new : Option (List ℕ)) (xs ys zs : List ℕ) → Grows old mid xs → GrowsByPrefix mid new ys → GrowsByPrefix old new (xs ++ (ys ++ zs))
+pub prefix_after : (old mid new : Option (List ℕ)) (xs ys zs : List ℕ) → Grows old mid xs → GrowsByProperPrefix mid new ys
+    → GrowsByProperPrefix old new (xs ++ (ys ++ zs))
 prefix_after old mid new xs ys zs first second = (
   xs ++ second.0,
   second.1 ++ zs,
-  rw second.2 (simp append_assoc),
-  Grows-append old mid new xs second.0 first second.3,
+  left_longer second.1 zs second.2,
+  rw second.3 (simp append_assoc),
+  Grows-append old mid new xs second.0 first second.4,
 )
 
 -- a fact under either answer
@@ -65,21 +71,24 @@ on_err_map (Ok x) P Q f p = tt
 on_err_map (Err e) P Q f p = f p
 
 -- a front of some text is a front of it with more behind it
-pub front_longer : (old new : Option (List ℕ)) (xs ys : List ℕ) → GrowsByPrefix old new xs → GrowsByPrefix old new (xs ++ ys)
+pub front_longer : (old new : Option (List ℕ)) (xs ys : List ℕ) → GrowsByProperPrefix old new xs → GrowsByProperPrefix old new (xs ++ ys)
 front_longer old new xs ys front = (
   front.0,
   front.1 ++ ys,
-  ap (λ (text : List ℕ). text ++ ys) front.2 ∙ append_assoc front.0 front.1 ys,
-  front.3,
+  left_longer front.1 ys front.2,
+  ap (λ (text : List ℕ). text ++ ys) front.3 ∙ append_assoc front.0 front.1 ys,
+  front.4,
 )
 
 -- a whole text, and then a front of what comes behind it
-pub front_later : (old mid new : Option (List ℕ)) (xs ys : List ℕ) → Grows old mid xs → GrowsByPrefix mid new ys → GrowsByPrefix old new (xs ++ ys)
+pub front_later : (old mid new : Option (List ℕ)) (xs ys : List ℕ) → Grows old mid xs → GrowsByProperPrefix mid new ys
+    → GrowsByProperPrefix old new (xs ++ ys)
 front_later old mid new xs ys first second = (
   xs ++ second.0,
   second.1,
-  ap (λ (text : List ℕ). xs ++ text) second.2 ∙ sym (append_assoc xs second.0 second.1),
-  Grows-append old mid new xs second.0 first second.3,
+  second.2,
+  ap (λ (text : List ℕ). xs ++ text) second.3 ∙ sym (append_assoc xs second.0 second.1),
+  Grows-append old mid new xs second.0 first second.4,
 )
 
 pub on_ok_map : {T E : Type 0} (r : Result T E) (P Q : Type 0) → (P → Q) → OnOk r P → OnOk r Q

@@ -3,6 +3,7 @@
 
 ghost use Rattle.saveable_laws.specs.Keeping.{AllKeepReserved, AllKeepSize, AllKeepSpellable, FilesSpellable};
 ghost use Rattle.saveable_laws.specs.Keeping.{LastSpellable, MomentsSpellable};
+ghost use Rattle.saveable_laws.specs.Spelled.{BytesTellStates, SpellableSpelled, SpelledBySaved};
 
 /// Whatever leads from a state to the next, a step, a pick, an interrupt, a kill or the end of a turn, there are as many processes as
 /// before, and as much room for pages.
@@ -29,4 +30,12 @@ pub fn histories_stay_spellable()
 /// State bytes spell the state that is read of a file, where the machine can be in it and it has room for no more than 32,768 pages.
 pub fn file_state_is_spellable()
     ensures { FilesSpellable }
+{}
+
+/// Two states that files spell are one where their state bytes are the same; a file that spells a state has its state bytes and no
+/// others. Nothing is asked of the numbers of a state but what the form of state bytes asks. State bytes spell each state that can be saved.
+pub fn bytes_tell_states()
+    ensures told { BytesTellStates }
+    ensures saved { SpelledBySaved }
+    ensures spellable { SpellableSpelled }
 {}

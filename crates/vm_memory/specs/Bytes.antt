@@ -53,6 +53,10 @@ used_frames owners = count_below (extent owners).frames (λ k. is_some (infos ow
 abbrev pub used_slots : OwnerTable → ℕ
 used_slots owners = count_below (extent owners).slots (λ k. is_some (infos owners (slot_seat k)))
 
+-- how many pages are out
+abbrev pub pages_out : {W : Type 0} → Memory W → ℕ
+pages_out m = used_slots m.owners
+
 -- no page is out
 unfoldable pub none_out : {W : Type 0} → Memory W → Bool
 none_out m = used_slots m.owners == 0

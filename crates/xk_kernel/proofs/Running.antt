@@ -1,2 +1,3 @@
 pub mod RanLemmas
 pub mod RunLemmas
+pub mod SomeLemmas

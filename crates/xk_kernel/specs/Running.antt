@@ -1,12 +1,19 @@
 -- What the instruction of a thread makes of the machine.
-use Rattle.std.specs.Prelude.{ℕ, Bool, Option}
-use Rattle.machine_model.specs.Hart.Instructions.{Executed, Next, Stores, StoresToConsole, StoresToTimer, CallsKernel, Traps}
-use Rattle.machine_model.specs.State.Machine.{Machine}
+use Rattle.std.specs.Prelude.{◌≡◌, ℕ, Bool, Option, if◌then◌else◌}
+use Rattle.machine_model.specs.Hart.Atomics.{Atomic, Performed, leaving, perform}
+use Rattle.machine_model.specs.Hart.Instructions.{Executed, Next, Stores, StoresToConsole, StoresToTimer, CallsKernel, Traps, fetch_page_fault}
+use Rattle.machine_model.specs.Runs.Isolation.{without_bytes}
+use Rattle.machine_model.specs.State.Machine.{Machine, Thread}
 use Rattle.machine_model.specs.State.Threads.{change_thread, with_registers}
-use Rattle.machine_model.specs.State.Views.{stored, timer_set}
-use Rattle.rv32_hart.specs.Running.{View}
+use Rattle.machine_model.specs.State.Views.{memory_of, stored, timer_set}
+use Rattle.machine_model.specs.Stepping.Reservations.{reserved_by}
+use Rattle.rv32_atomics.specs.Performing.{Core}
+use Rattle.rv32_hart.specs.Running.{View, ran_of}
+use Rattle.rv32_hart.specs.declared.ran.Ran.{Ran}
 use Rattle.timer_device.specs.Page.{console_with_timer, may_with_timer, timer_with}
+use Rattle.xk_base.specs.UserMemory.{Memory}
 use Rattle.xk_base.specs.declared.ids.ThreadId.{ThreadId}
+use Rattle.xk_base.specs.declared.pages.Access.TheVariants.{Fetch}
 
 -- the thread goes on with its registers and its pc, and a store is made; a call of the kernel and a trap change nothing yet
 abbrev pub machine_after : ThreadId → Machine → Executed → Machine
@@ -25,3 +32,32 @@ timed_view on steps compare inner = record {
   content = inner.content;
   timer = timer_with on (record { steps = steps; compare = compare }) inner.timer;
 }
+
+-- ---- where bytes aren't known
+
+-- what may stand in a memory whose bytes aren't known: these bytes, and at the pc this word, which is that atomic instruction, or
+-- without one an instruction of the base table
+pub record Unknown : Type 0 where
+  pub byte : ℕ → ℕ
+  pub word : ℕ
+  pub atomic : Option Atomic
+
+-- the instruction at the pc is performed where that stands in memory; what the process may reach is known all the same
+abbrev pub performed_where : Unknown → Core → ℕ → Memory → Performed
+performed_where stands core pc mem =
+    if mem.may Fetch pc
+    then perform (record mem { byte = stands.byte }) core.regs pc stands.word core.reserved stands.atomic
+    else leaving core.reserved (Traps fetch_page_fault pc)
+
+-- .. by a thread of the machine
+abbrev pub thread_performed_where : Unknown → Machine → ThreadId → Thread → Performed
+thread_performed_where stands m who t =
+    performed_where stands (record { regs = t.regs; reserved = reserved_by who m.reserved }) t.pc (memory_of m who.pid)
+
+-- ONE INSTRUCTION OF THE THREAD, whatever stands in memory: the answer, the reservation and the machine but for the bytes of pages are
+-- what it makes of them. So it changes no other thread, and of its own no more than an instruction does.
+pub record RunsSome (m new : Machine) (who : ThreadId) (t : Thread) (reserved : Option ℕ) (answer : Ran) : Type 0 where
+  pub stands : Unknown
+  pub answered : answer ≡ ran_of (thread_performed_where stands m who t).executed
+  pub machine : without_bytes new ≡ without_bytes (machine_after who m (thread_performed_where stands m who t).executed)
+  pub reserved : reserved ≡ (thread_performed_where stands m who t).reserved

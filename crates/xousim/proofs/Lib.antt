@@ -1,3 +1,4 @@
+pub mod BegunLemmas
 pub mod Images
 pub mod Outcome
 pub mod Output

@@ -5,7 +5,7 @@ use Rattle.suspend_image.specs.Saveable.{IsSpellable}
 use Rattle.suspend_image.specs.StateBytes.{saved_bytes}
 use Rattle.xk_base.specs.Outside.{Rose}
 use Rattle.xk_ports.specs.declared.host.FileSlot.TheVariants.{Second}
-use Rattle.xk_ports.specs.Told.{Grows, GrowsByPrefix}
+use Rattle.xk_ports.specs.Told.{Grows, GrowsByProperPrefix}
 use Rattle.event_player.specs.declared.ending.Ending.{Ending}
 use Rattle.event_player.specs.declared.ending.Ending.TheVariants.{Played, LimitMet, BadLine}
 use Rattle.xousim.specs.declared.status.Status.{Status}
@@ -13,16 +13,15 @@ use Rattle.xousim.specs.declared.status.Status.TheVariants.{Done, Usage, ReadFau
 use Rattle.xousim.specs.declared.status.Status.TheVariants.{SwapFault, NoMemory}
 use Rattle.xousim.specs.Outcome.Images.{Image, plan_in}
 use Rattle.xousim.specs.Outcome.Plays.{HasCause, Tells}
-use Rattle.xousim.specs.Outcome.Sides.{Call, HostRose, IsTrusted, IsUnwritten, Prepares, SinkSide, StoreRose, StoreSide, Told}
-use Rattle.event_player.specs.Rooms.{Room}
-use Rattle.xousim.specs.Outcome.Starts.{room_of}
+use Rattle.xousim.specs.Outcome.Sides.{Call, HostRose, IsUnwritten, Prepares, SinkSide, StoreRose, StoreSide, Told}
+use Rattle.xousim.specs.Outcome.Starts.{Booted, room_of}
 use Rattle.xousim.specs.Outcome.States.{StateFile, room_from}
 use Rattle.xousim.specs.Outcome.Suspends.{Saves, silent}
 use Rattle.host_io.specs.Reading.{Asked, IsTold}
 use Rattle.event_player.specs.Telling.{closing}
 use Rattle.xousim.specs.Words.{Play, Resume, Suspend}
 
--- what is told at the end of a history that came to this machine was written, or a part of it, and this is the status
+-- what is told at the end of a history that came to this machine was written, or a proper part from its front, and this is the status
 abbrev pub Finishes : Play → Machine → Ending → SinkSide → Status → Type 0
 Finishes play machine ending out Done = (ending ≡ Played) × Grows out.written out.written_after (closing play.tells machine ending)
 Finishes play machine ending out (EventFault line) =
@@ -30,18 +29,12 @@ Finishes play machine ending out (EventFault line) =
 Finishes play machine ending out (StepLimit limit) =
     (limit ≡ play.limit) × (ending ≡ LimitMet) × Grows out.written out.written_after (closing play.tells machine ending)
 Finishes play machine ending out WriteFault =
-    Rose out.faults out.faults_after × GrowsByPrefix out.written out.written_after (closing play.tells machine ending)
+    Rose out.faults out.faults_after × GrowsByProperPrefix out.written out.written_after (closing play.tells machine ending)
 Finishes play machine ending out Usage = ⊥
 Finishes play machine ending out SwapFault = ⊥
 Finishes play machine ending out ReadFault = ⊥
 Finishes play machine ending out NoMemory = ⊥
 Finishes play machine ending out (ImageFault fault) = ⊥
-
--- what was booted: the machine on which the run starts, the room for its pages in RAM, and the slots
-pub record Booted : Type 0 where
-  pub machine : Machine
-  pub room : Room
-  pub slots : ℕ
 
 -- The image of a command is what was booted, and the store was prepared for it.
 pub record Starts (play : Play) (files : Told) (booted : Booted) (store : StoreSide) : Type 0 where
@@ -61,7 +54,7 @@ pub record EndsNotPicked (play : Play) (call : Call) : Type 0 where
 pub record EndsPicked (play : Play) (booted : Booted) (call : Call) : Type 0 where
   pub asked : Asked call.host.asked call.host.asked_after Second play.events true
   pub cause : HasCause play booted.room booted.machine call call.status
-  pub content : IsTrusted call.store booted.slots → Tells play booted.machine call call.status
+  pub content : Tells play booted call call.status
   pub events_read : call.status ≡ Done → IsTold call.host.left []
 
 -- what holds of a call from where its image was booted
@@ -70,11 +63,11 @@ EndsBooted play booted call = EndsNotPicked play call ⊎ EndsPicked play booted
 
 -- ---- `suspend`
 
--- the last state was saved, the status being this one: its state bytes were written, or a part of them, or nothing
+-- the last state was saved, the status being this one: its state bytes were written, or a proper part from their front
 abbrev pub SavesState : Machine → SinkSide → Status → Type 0
 SavesState machine out Done = IsSpellable machine × Grows out.written out.written_after (saved_bytes machine)
-SavesState machine out WriteFault = GrowsByPrefix out.written out.written_after (saved_bytes machine)
-SavesState machine out SwapFault = out.written_after ≡ out.written
+SavesState machine out WriteFault = GrowsByProperPrefix out.written out.written_after (saved_bytes machine)
+SavesState machine out SwapFault = Unit {0}
 SavesState machine out Usage = ⊥
 SavesState machine out ReadFault = ⊥
 SavesState machine out NoMemory = ⊥
@@ -82,11 +75,11 @@ SavesState machine out (ImageFault fault) = ⊥
 SavesState machine out (EventFault line) = ⊥
 SavesState machine out (StepLimit limit) = ⊥
 
--- whose count rose as it was saved, by the status: the store's only where a page is out
+-- whose count rose as it was saved, by the status: the store's only where a page is out, and then nothing was written
 abbrev pub HasSaveCause : Bool → SinkSide → StoreSide → Status → Type 0
 HasSaveCause near out store Done = Unit {0}
 HasSaveCause near out store WriteFault = Rose out.faults out.faults_after
-HasSaveCause near out store SwapFault = StoreRose store × (near ≡ false)
+HasSaveCause near out store SwapFault = StoreRose store × (near ≡ false) × (out.written_after ≡ out.written)
 HasSaveCause near out store Usage = ⊥
 HasSaveCause near out store ReadFault = ⊥
 HasSaveCause near out store NoMemory = ⊥
@@ -98,7 +91,7 @@ HasSaveCause near out store (StepLimit limit) = ⊥
 pub record EndsSavedPicked (suspend : Suspend) (booted : Booted) (call : Call) : Type 0 where
   pub asked : Asked call.host.asked call.host.asked_after Second suspend.events true
   pub cause : HasCause (silent suspend) booted.room booted.machine call call.status
-  pub content : IsTrusted call.store booted.slots → Saves suspend booted.machine call call.status
+  pub content : Saves suspend booted call call.status
   pub events_read : call.status ≡ Done → IsTold call.host.left []
 
 -- what holds of a call of `suspend` from where its image was booted

@@ -6,7 +6,7 @@ use Rattle.xousim.specs.declared.status.Status.TheVariants.{Done, Usage, ReadFau
 use Rattle.xousim.specs.declared.status.Status.TheVariants.{SwapFault, NoMemory}
 use Rattle.xousim.specs.Outcome.Plays.{EndsPlay}
 use Rattle.xousim.specs.Outcome.Sides.{Call}
-use Rattle.xousim.specs.Outcome.Verdicts.{IsTrustedPlay}
+use Rattle.xousim.specs.Outcome.Verdicts.{IsKnownPlay}
 use Rattle.xousim.specs.Splits.{Setup}
 use Rattle.xousim.specs.Words.{Play}
 
@@ -23,14 +23,15 @@ is_cut_short (EventFault line) = false
 is_cut_short (StepLimit limit) = false
 
 -- `trace`, `run` or `ledger` plays these events on the image of the setup, for its slots, and neither a fault outside nor want of memory
--- ends the call. The host tells its files, and the run is trusted: its store is honest and tells what it holds, or there are no slots.
+-- ends the call. The host tells its files, and what the pages of the run hold is known: its store is honest and tells what it holds, there
+-- are no slots, or no state of the run has more pages than there are frames for.
 pub record PlaysOn (setup : Setup) (events : List ℕ) (play : Play) (call : Call) : Type 0 where
   pub slots : play.slots ≡ setup.asked
   pub files : List ℕ → Option (List ℕ)
   pub told : call.host.files ≡ Some files
   pub image : files play.image ≡ Some setup.image
   pub event_file : files play.events ≡ Some events
-  pub trusted : IsTrustedPlay play call
+  pub known : IsKnownPlay play call
   pub whole : is_cut_short call.status ≡ false
   pub ends : EndsPlay play call
 

@@ -2,7 +2,7 @@
 
 ghost use Rattle.std.specs.Prelude.{◌≡◌, ◌+◌, ◌≤◌, [], ◌++◌, length, decimal};
 ghost use Rattle.arrayvec.specs.ArrayVec.{array_vec_len};
-ghost use Rattle.xk_ports.specs.Told.{Grows, GrowsByPrefix};
+ghost use Rattle.xk_ports.specs.Told.{Grows, GrowsByProperPrefix};
 ghost use Rattle.xousim.specs.Status.{fault_name, note_of};
 ghost use Rattle.xousim.specs.Outcome.Sides.{Notes, sink_side};
 

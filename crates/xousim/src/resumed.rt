@@ -1,6 +1,6 @@
 //! A run that was suspended goes on as if it had not been. The functions do nothing; their contracts are the laws.
 
-ghost use Rattle.std.specs.Prelude.{◌≡◌, ◌≤◌, ◌++◌, ℕ, List};
+ghost use Rattle.std.specs.Prelude.{◌≡◌, ◌<◌, ◌≤◌, ◌++◌, ℕ, All, IfSome, List, Option};
 ghost use Rattle.xk_base.specs.declared.events.Event.{Event};
 ghost use Rattle.machine_model.specs.Runs.Matched.{Matched};
 ghost use Rattle.machine_model.specs.State.Machine.{Machine};
@@ -10,8 +10,12 @@ ghost use Rattle.suspend_image.specs.Saveable.{IsSaveable};
 ghost use Rattle.suspend_image.specs.StateBytes.{saved_bytes};
 ghost use Rattle.machine_history.specs.History.{history};
 ghost use Rattle.resume_path.specs.Resumable.{IsResumable};
+ghost use Rattle.start_laws.specs.Starting.{Begins};
+ghost use Rattle.xk_base.specs.declared.limits.TheConstants.{SLOT_LIMIT};
+ghost use Rattle.xousim.specs.Outcome.Images.{Boots};
 ghost use Rattle.xousim.specs.Outcome.Resumes.{limit_from};
 ghost use Rattle.xousim.specs.Resumed.{IsCut, IsJoined};
+ghost use Rattle.xousim.specs.StateFiles.{Restores};
 
 /// A state is read of the bytes of each state to which events lead, and it is that one. The numbers of
 /// the state fit into words, as they do in each state that a kernel holds: of every state that `suspend`
@@ -36,4 +40,25 @@ pub fn resumed_run_goes_on()
     ensures limit { (before : List Event) (limit : ℕ) (start : Machine) (file : List ℕ) (state : State)
         → Matched start → start.steps ≤ limit → IsSaveable (history before limit start).machine
         → IsCut before limit start file state → limit_from limit (machine_of file state) ≡ limit }
+{}
+
+/// A machine that an image of bytes boots, or that a state file of bytes restores, begins so that each state of its histories up to
+/// 4,000,000,000 steps can be written as state bytes (`every_state_is_spellable` of `start_laws`).
+pub fn runs_begin()
+    ensures booted { (image : List ℕ) (asked : Option ℕ) (machine : Machine) → IfSome asked (λ n. n ≤ SLOT_LIMIT)
+        → All (λ b. b < 256) image → Boots image asked machine → Begins machine }
+    ensures restored { (file : List ℕ) (slots : ℕ) (machine : Machine) → All (λ b. b < 256) file
+        → Restores file slots machine → Begins machine }
+{}
+
+/// So such a run that is suspended goes on as if it had not been, up to a limit of 4,000,000,000 steps at most: a state is read of the
+/// bytes of the state to which events lead, it is that one, and the limit stays. Nothing is asked of the numbers of any state.
+pub fn begun_run_goes_on()
+    ensures read { (before : List Event) (limit : ℕ) (start : Machine) → Begins start → start.steps ≤ limit → limit ≤ 4000000000
+        → let last = (history before limit start).machine in (state : State) × IsResumable (saved_bytes last) state }
+    ensures goes_on { (before after : List Event) (limit : ℕ) (start : Machine) (file : List ℕ) (state : State) → Begins start
+        → start.steps ≤ limit → limit ≤ 4000000000 → IsCut before limit start file state
+        → IsJoined (history (before ++ after) limit start) (history before limit start) (history after limit (machine_of file state)) }
+    ensures limit { (before : List Event) (limit : ℕ) (start : Machine) (file : List ℕ) (state : State) → Begins start
+        → start.steps ≤ limit → limit ≤ 4000000000 → IsCut before limit start file state → limit_from limit (machine_of file state) ≡ limit }
 {}

@@ -2,20 +2,27 @@
 //! nothing; their contracts are the laws.
 
 ghost use Rattle.std.specs.Prelude.{◌≡◌, ◌↔◌, ℕ, List};
+ghost use Rattle.kernel_args.specs.declared.args.Args.{Args};
+ghost use Rattle.kernel_args.specs.Image.{Spells};
 ghost use Rattle.machine_model.specs.State.Machine.{Machine};
 ghost use Rattle.event_player.specs.declared.telling.Telling.{Telling};
 ghost use Rattle.xousim.specs.Outcome.Images.{Boots};
 ghost use Rattle.event_player.specs.History.{run_of};
 ghost use Rattle.xousim.specs.Outcome.Sides.{Call};
 ghost use Rattle.xousim.specs.SplitCalls.{EndAlike, PlaysOn};
-ghost use Rattle.xousim.specs.Splits.{Setup, SplitOneCapacity};
+ghost use Rattle.xousim.specs.Splits.{DifferInRam, LoadAlike, Setup, SplitOneCapacity};
 ghost use Rattle.event_player.specs.Telling.{output};
 ghost use Rattle.xousim.specs.Words.{Play};
 
-/// Two images that differ in nothing but RAM start, RAM size and the check number over them, each without
-/// a fault in a run whose slots give the two one capacity, boot the same machine. So they have the same
-/// history, whatever the events and the step limit are, and `trace`, `run` and `ledger` tell the same
-/// bytes of it.
+/// Two images that differ in nothing but RAM start, RAM size and the check number over them load the same.
+pub fn ram_is_not_loaded()
+    ensures { (image other : List ℕ) (args others : Args) → DifferInRam image other → Spells image args → Spells other others
+        → LoadAlike image other args others }
+{}
+
+/// Two images that load the same processes, each without a fault in a run whose slots give the two one capacity, boot the same machine:
+/// however they split it by their RAM, by the slots that they give and by those asked for. So they have the same history, whatever the
+/// events and the step limit are, and `trace`, `run` and `ledger` tell the same bytes of it.
 pub fn swapping_is_invisible()
     ensures boots { (one other : Setup) (machine : Machine) → SplitOneCapacity one other
         → (Boots one.image one.asked machine ↔ Boots other.image other.asked machine) }
@@ -27,7 +34,8 @@ pub fn swapping_is_invisible()
 {}
 
 /// Two calls of one command, `trace`, `run` or `ledger`, that play the same events on two such images end with one
-/// status and write the same. Neither is ended by a fault outside or want of memory, and both runs are trusted.
+/// status and write the same. Neither is ended by a fault outside or want of memory, and what the pages of both runs
+/// hold is known.
 pub fn split_calls_end_alike()
     ensures { (one other : Setup) (events : List ℕ) (play twin : Play) (call answer : Call) → SplitOneCapacity one other
         → PlaysOn one events play call → PlaysOn other events twin answer

@@ -1,16 +1,15 @@
 -- Where the events of a file were played, no page is out, unless some state has more pages than there are frames for.
-use Rattle.std.proofs.Common.{◌≡◌, ◌⊎◌, inl, inr, ℕ, Bool, true, List, [], ◌++◌, Option, refl, ap, subst}
+use Rattle.std.proofs.Common.{◌≡◌, ◌⊎◌, inl, inr, ℕ, true, List, [], ◌++◌, ap, subst}
 use Rattle.xk_base.specs.declared.events.Event.{Event}
 use Rattle.event_text.specs.EventFile.{Input, input_of}
 use Rattle.event_text.specs.Held.{Reader}
 use Rattle.event_text.specs.Plays.{left_of, play_of}
 use Rattle.machine_history.specs.HistoryMoments.{moments_of}
 use Rattle.event_player.specs.Rooms.{ComesFull}
-use Rattle.event_player.specs.Playing.{Follows, HasPlayed, IsNearAtEnd, LeavesNear, Run}
-use Rattle.host_io.specs.Reading.{IsTold}
+use Rattle.event_player.specs.Playing.{Follows, HasPlayed, IsNearAtEnd, Run}
 use Rattle.event_player.specs.Standing.{Stand}
 use Rattle.event_player.proofs.Playing.FullLemmas.{events_full_front}
-use Rattle.event_player.proofs.Playing.PlayingLemmas.{left_is}
+use Rattle.event_player.proofs.Playing.EndingLemmas.{left_is}
 
 -- so it is after each event, whatever the rest of the file is
 pub near_so_far : (run : Run) (now : Stand) (taken : List ℕ) (r : Reader) → HasPlayed run taken r now → IsNearAtEnd run taken r.finished now
@@ -25,8 +24,3 @@ near_so_far run now taken r p = λ more may. go more may p.reaches.near
         let C : List Event → Type 0 = λ events. ComesFull now.room run.start (moments_of events run.limit run.start) in
         inr (subst C (ap (λ (input : Input). input.events) (left_is run now taken r more may p))
         (events_full_front now.room run.limit run.start (play_of p.calls).answered (left_of r more).events full))
-
--- a file of which no more was left
-pub file_near : (run : Run) (now : Stand) (left : Option (List ℕ)) (taken : List ℕ) (finished : Bool)
-    → IsTold left (taken ++ []) → IsNearAtEnd run taken finished now → LeavesNear run left now
-file_near run now left taken finished told near = record { bytes = taken ++ []; told = told; near = near [] (λ said. refl) }

@@ -14,6 +14,7 @@ use Rattle.event_player.specs.History.{with_ending}
 use Rattle.event_player.specs.Playing.{Comes, Plays}
 use Rattle.event_player.specs.Standing.{Stand}
 use Rattle.event_player.specs.Telling.{told}
+use Rattle.event_player.proofs.Playing.GatheringLemmas.{gathers_silent}
 use Rattle.event_player.proofs.Playing.HistoryLemmas.{gathered_same, part_same, play_other}
 
 abbrev pub IsOther : Event → Type 0
@@ -22,7 +23,12 @@ IsOther event = ((pid : Pid) × (tid : Tid) × (event ≡ Pick pid tid)) ⊎ (((
 pub plays_once : (tells : Telling) (event : Event) (limit : ℕ) (old new : Stand) → IsOther event → new.machine ≡ (event_done event old.machine).machine
     → (old.near ≡ true → new.near ≡ true) → Gathers old.text new.text (told tells (event_done event old.machine).records)
     → Plays tells event limit old new (Ok Played)
-plays_once tells event limit old new other there stays gathered = record { trusted = λ trusted. comes; near = λ near. inl (stays near, comes) }
+plays_once tells event limit old new other there stays gathered = record {
+  trusted = λ trusted. comes;
+  near = λ near. inl (stays near, comes);
+  ends = tt;
+  silent = gathers_silent tells old.text new.text (event_done event old.machine).records gathered;
+}
   where
     is : kernel.play event limit old.machine ≡ kernel.reached (event_done event old.machine)
     is = play_other event limit old.machine other
@@ -36,7 +42,8 @@ plays_once tells event limit old new other there stays gathered = record { trust
 pub plays_once_unwritten : (tells : Telling) (event : Event) (limit : ℕ) (old new : Stand) → IsOther event
     → (old.near ≡ true → new.near ≡ true) → GathersPart old.text new.text (told tells (event_done event old.machine).records)
     → Plays tells event limit old new (Err Write)
-plays_once_unwritten tells event limit old new other stays part = record { trusted = λ trusted. comes; near = λ near. inl (stays near, comes) }
+plays_once_unwritten tells event limit old new other stays part =
+    record { trusted = λ trusted. comes; near = λ near. inl (stays near, comes); ends = tt; silent = tt }
   where
     comes : Comes tells event limit old new (Err Write)
     comes = part_same tells old.text new.text _ _ (ap (with_ending Played) (play_other event limit old.machine other)) part

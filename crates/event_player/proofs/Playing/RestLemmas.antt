@@ -1,6 +1,6 @@
 -- What is left of a tick: what comes of the rest comes of the whole.
 use Rattle.xk_ports.specs.declared.store.SwapStore.{Ghosts as SwapStore}
-use Rattle.std.proofs.Common.{◌≡◌, ◌-◌, ◌≤◌, ◌⊎◌, ◌∙◌, inl, inr, ℕ, zero, suc, Bool, true, false, List, Result, Ok, Err, IsErrAnd, is_some, refl, sym, ap, subst, arith}
+use Rattle.std.proofs.Common.{◌≡◌, ◌-◌, ◌+◌, ◌≤◌, ◌⊎◌, ◌∙◌, inl, inr, ℕ, zero, suc, Bool, true, false, List, Result, Ok, Err, IsErrAnd, is_some, refl, sym, ap, subst, arith}
 use Rattle.xk_base.specs.declared.events.Event.{Event}
 use Rattle.xk_base.specs.declared.events.Event.TheVariants.{Tick}
 use Rattle.machine_model.specs.Runs.Moments.{Moment}
@@ -26,10 +26,12 @@ use Rattle.event_player.specs.History.{with_ending}
 use Rattle.event_player.specs.Rooms.{ComesFull, Room}
 use Rattle.event_player.specs.Playing.{Comes, Plays, PlaysOn, StaysNear}
 use Rattle.event_player.specs.Standing.{Stand, stand}
+use Rattle.event_player.proofs.Playing.GatheringLemmas.{silent_same}
 use Rattle.event_player.proofs.Playing.HistoryLemmas.{gathered_same, met_steps, part_same}
 use Rattle.event_player.proofs.Playing.QuietLemmas.{quiet_counts, quiet_full, quiet_tick}
 use Rattle.event_player.proofs.Playing.StandingLemmas.{near_knows, room_stays, trust_stays, trusted_knows}
 use Rattle.event_player.proofs.Playing.StepLimitLemmas.{play_grows}
+use Rattle.event_player.proofs.Playing.TickLemmas.{silence_later}
 
 -- ---- the rest of an event, of whose front nothing is told
 
@@ -48,37 +50,44 @@ pub record StandsBefore (limit : ℕ) (whole rest : Event) (old mid : Stand) : T
   pub near : old.near ≡ true → (mid.near ≡ true) × IsRest whole rest old.machine mid.machine
 
 comes_of_rest : (tells : Telling) (whole rest : Event) (limit : ℕ) (old mid new : Stand) (result : Result Ending PlayFault) → mid.text ≡ old.text
+    → mid.room ≡ old.room → (old.near ≡ true → mid.near ≡ true)
     → mid.machine.steps ≤ limit → IsRest whole rest old.machine mid.machine → Comes tells rest limit mid new result → Comes tells whole limit old new result
-comes_of_rest tells whole rest limit old mid new (Ok ending) same within is comes =
+comes_of_rest tells whole rest limit old mid new (Ok ending) same room near within is comes =
     let alike = is.history limit within in
     let P : Text → Type 0 = λ text. Gathered tells text new.text (with_ending Played (play rest limit mid.machine)) ending in (
       gathered_same tells old.text new.text _ _ ending (ap (with_ending Played) alike) (subst P same comes.0),
       comes.1 ∙ sym (ap (λ (h : kernel.History). h.machine) alike),
     )
-comes_of_rest tells whole rest limit old mid new (Err Write) same within is comes =
+comes_of_rest tells whole rest limit old mid new (Err Write) same room near within is comes =
     let P : Text → Type 0 = λ text. GatheredPart tells text new.text (with_ending Played (play rest limit mid.machine)) in
     part_same tells old.text new.text _ _ (ap (with_ending Played) (is.history limit within)) (subst P same comes)
-comes_of_rest tells whole rest limit old mid new (Err Swap) same within is comes =
-    let done : ℕ = comes.done in
+comes_of_rest tells whole rest limit old mid new (Err Swap) same room near within is comes =
+    let done : ℕ = comes.some.done in
     let grown = play_grows rest done mid.machine in
-    let ends = met_steps rest done mid.machine comes.met in
+    let ends = met_steps rest done mid.machine comes.some.met in
+    let R : Room → Type 0 = λ r. ComesFull r mid.machine (event_moments rest (done + 1) mid.machine) in
     let alike = is.history done (omega (arith, grown, ends)) in
     let P : Text → Type 0 = λ text. Gathered tells text new.text (with_ending Played (play rest done mid.machine)) LimitMet in
-    let wrote = gathered_same tells old.text new.text (with_ending Played (play whole done old.machine)) _ LimitMet (ap (with_ending Played) alike) (subst P same (comes.met, comes.gathered)) in
-    record { done = done; within = comes.within; met = wrote.0; gathered = wrote.1 }
+    let wrote = gathered_same tells old.text new.text (with_ending Played (play whole done old.machine)) _ LimitMet (ap (with_ending Played) alike) (subst P same (comes.some.met, comes.some.gathered)) in
+    record {
+      some = record { done = done; within = comes.some.within; met = wrote.0; gathered = wrote.1 };
+      soon = λ before. is.states old.room (done + 1) (omega (arith, grown, ends)) (subst R room (comes.soon (near before)));
+    }
 
 pub plays_of_rest : (tells : Telling) (whole rest : Event) (limit : ℕ) (old mid new : Stand) (result : Result Ending PlayFault)
     → StandsBefore limit whole rest old mid → Plays tells rest limit mid new result → Plays tells whole limit old new result
 plays_of_rest tells whole rest limit old mid new result stands plays = record {
   trusted = λ trusted.
-      comes_of_rest tells whole rest limit old mid new result stands.text stands.within (stands.trusted trusted) (plays.trusted (stands.trust ∙ trusted));
+      comes_of_rest tells whole rest limit old mid new result stands.text stands.room (λ near. (stands.near near).0) stands.within (stands.trusted trusted) (plays.trusted (stands.trust ∙ trusted));
   near = λ near. let both = stands.near near in go both.1 (plays.near both.0);
+  ends = plays.ends;
+  silent = silence_later tells old.text mid.text new.text result (silent_same tells old.text mid.text stands.text) plays.silent;
 }
   where
     go : IsRest whole rest old.machine mid.machine
         → (StaysNear new result × Comes tells rest limit mid new result) ⊎ ComesFull mid.room mid.machine (event_moments rest limit mid.machine)
         → (StaysNear new result × Comes tells whole limit old new result) ⊎ ComesFull old.room old.machine (event_moments whole limit old.machine)
-    go is (inl both) = inl (both.0, comes_of_rest tells whole rest limit old mid new result stands.text stands.within is both.1)
+    go is (inl both) = inl (both.0, comes_of_rest tells whole rest limit old mid new result stands.text stands.room (λ near. (stands.near near).0) stands.within is both.1)
     go is (inr later) =
         let A : Room → Type 0 = λ r. ComesFull r mid.machine (event_moments rest limit mid.machine) in
         inr (is.states old.room limit stands.within (subst A stands.room later))

@@ -17,6 +17,7 @@ use Rattle.event_player.specs.Gathering.{Gathers, GathersPart, Text}
 use Rattle.event_player.specs.Rooms.{IsFull}
 use Rattle.event_player.specs.Standing.{room_in, stand}
 use Rattle.event_player.specs.Telling.{told}
+use Rattle.event_player.proofs.Playing.GatheringLemmas.{gathers_silent}
 use Rattle.event_player.proofs.Playing.StandingLemmas.{near_knows, room_stays, trust_stays, trusted_knows}
 use Rattle.event_player.proofs.Playing.TickLemmas.{DoesOne, FailsOne, StepsTo}
 
@@ -50,6 +51,7 @@ step_does {S = S} {old = old} {new = new} tells limit before after keeps counts 
   room = room_stays keeps;
   trusted = λ trusted. exact (does (trusted_knows keeps trusted));
   near = λ near. near_or_full S.held old new (StepsTo tells (stand S old before) (stand S new after)) out near (λ after. exact (does (near_knows S old new near after)));
+  silent = gathers_silent tells before after (last_of new) gathered;
 }
   where
     exact : DoesStep S.held old new Did → StepsTo tells (stand S old before) (stand S new after)

@@ -6,11 +6,13 @@ use Rattle.std.proofs.lemmas.Bool.Decides.{nat_tests}
 use Rattle.xk_base.specs.declared.events.Event.{Event}
 use Rattle.xk_base.specs.declared.events.Event.TheVariants.{Tick, Pick, Irq, Kill}
 use Rattle.machine_model.specs.Stepping.Events.{nothing}
+use Rattle.machine_model.specs.Runs.Moments.{ByStep, ByTurn, Moment, moment_of}
 use Rattle.machine_model.specs.State.Machine.{Machine}
 use Rattle.machine_model.specs.State.Order.{actor, turn}
 use Rattle.machine_model.specs.Stepping.Step.{step}
 use Rattle.xk_base.specs.declared.records.Rec.{Rec}
 use Rattle.machine_history.specs.History.{History, reached, stopped, behind, go_on, ticks, play, history}
+use Rattle.machine_history.specs.HistoryMoments.{event_moments, moments_of, tick_moments}
 use Rattle.machine_history.proofs.Histories.LimitLemmas.{history_met, irq_steps, kill_steps, pick_steps, step_steps, turn_steps}
 
 -- a tick by whether there is who does a step, and whether the limit is met
@@ -103,6 +105,64 @@ history_same (event ∷ events) one other m unmet within =
         ap (λ (h : History). go_on h.met h (history events other)) same
         ∙ (ap (λ (b : Bool). go_on b (play event one m) (history events other)) is
         ∙ ap (behind (play event one m).records) (later met most))
+
+-- .. goes through the same moments
+ticks_through : (n one other : ℕ) (m : Machine) → (ticks n one m).met ≡ false → (ticks n one m).machine.steps ≤ other → tick_moments n other m ≡ tick_moments n one m
+unfolding ticks tick_moments
+ticks_through zero one other m unmet within = refl
+ticks_through (suc n) one other m unmet within =
+    go (is_some (actor m)) refl (m.steps == one) (m.steps == other) refl
+    (ticks_grow n one (step m).machine) (λ met most. ticks_through n one other (step m).machine met most) unmet within
+  where
+    go : (a : Bool) → is_some (actor m) ≡ a → (b c : Bool) → (m.steps == other) ≡ c
+        → (step m).machine.steps ≤ (ticks n one (step m).machine).machine.steps
+        → ((ticks n one (step m).machine).met ≡ false → (ticks n one (step m).machine).machine.steps ≤ other
+        → tick_moments n other (step m).machine ≡ tick_moments n one (step m).machine)
+        → (if a then (if b then stopped m else behind (step m).records (ticks n one (step m).machine)) else reached (nothing (turn m))).met ≡ false
+        → (if a then (if b then stopped m else behind (step m).records (ticks n one (step m).machine)) else reached (nothing (turn m))).machine.steps ≤ other
+        → (if a then (if c then [] else moment_of ByStep m ∷ tick_moments n other (step m).machine) else moment_of ByTurn m ∷ [])
+        ≡ (if a then (if b then [] else moment_of ByStep m ∷ tick_moments n one (step m).machine) else moment_of ByTurn m ∷ [])
+    go false ready b c test grown later met most = refl
+    go true ready true c test grown later met most = cc
+    go true ready false true test grown later met most =
+        let same : m.steps ≡ other = grind (arith, nat_tests) in
+        absurd (omega (arith, same, grown, most, step_steps m ready))
+    go true ready false false test grown later met most = ap (λ (ms : List Moment). moment_of ByStep m ∷ ms) (later met most)
+
+event_through : (event : Event) (one other : ℕ) (m : Machine) → (play event one m).met ≡ false → (play event one m).machine.steps ≤ other
+    → event_moments event other m ≡ event_moments event one m
+unfolding play event_moments
+event_through (Tick n) one other m unmet within = ticks_through n one other m unmet within
+event_through (Pick pid tid) one other m unmet within = refl
+event_through (Irq k) one other m unmet within = refl
+event_through (Kill pid) one other m unmet within = refl
+
+pub moments_same : (events : List Event) (one other : ℕ) (m : Machine) → (history events one m).met ≡ false
+    → (history events one m).machine.steps ≤ other → moments_of events other m ≡ moments_of events one m
+unfolding history moments_of
+moments_same [] one other m unmet within = refl
+moments_same (event ∷ events) one other m unmet within =
+    go (play event one m).met refl (history_grows events one (play event one m).machine)
+    (λ met most. play_same event one other m met most) (λ met most. event_through event one other m met most)
+    (λ met most. moments_same events one other (play event one m).machine met most) unmet within
+  where
+    go : (b : Bool) → (play event one m).met ≡ b
+        → (play event one m).machine.steps ≤ (history events one (play event one m).machine).machine.steps
+        → ((play event one m).met ≡ false → (play event one m).machine.steps ≤ other → play event other m ≡ play event one m)
+        → ((play event one m).met ≡ false → (play event one m).machine.steps ≤ other → event_moments event other m ≡ event_moments event one m)
+        → ((history events one (play event one m).machine).met ≡ false → (history events one (play event one m).machine).machine.steps ≤ other
+        → moments_of events other (play event one m).machine ≡ moments_of events one (play event one m).machine)
+        → (go_on b (play event one m) (history events one)).met ≡ false
+        → (go_on b (play event one m) (history events one)).machine.steps ≤ other
+        → event_moments event other m ++ (if (play event other m).met then [] else moments_of events other (play event other m).machine)
+        ≡ event_moments event one m ++ (if b then [] else moments_of events one (play event one m).machine)
+    go true is grown first through later met most = absurd (false≢true (sym met ∙ is))
+    go false is grown first through later met most =
+        let same : play event other m ≡ play event one m = first is (omega (arith, grown, most)) in
+        ap (λ (ms : List Moment). ms ++ (if (play event other m).met then [] else moments_of events other (play event other m).machine)) (through is (omega (arith, grown, most)))
+        ∙ (ap (λ (h : History). event_moments event one m ++ (if h.met then [] else moments_of events other h.machine)) same
+        ∙ (ap (λ (b : Bool). event_moments event one m ++ (if b then [] else moments_of events other (play event one m).machine)) is
+        ∙ ap (λ (ms : List Moment). event_moments event one m ++ ms) (later met most)))
 
 -- ---- a limit that is met, and a higher one
 

@@ -1,5 +1,6 @@
 -- A tick, one step further: what comes of the rest comes of the whole.
-use Rattle.std.proofs.Common.{◌≡◌, ◌≢◌, ◌+◌, ◌-◌, ◌≤◌, ◌⊎◌, ◌∙◌, inl, inr, ℕ, true, false, Result, Ok, Err, is_some, refl, sym, ap, subst, arith}
+use Rattle.std.proofs.Common.{◌≡◌, ◌≢◌, ◌+◌, ◌-◌, ◌≤◌, ◌⊎◌, ◌∙◌, inl, inr, ℕ, Bool, true, false, Result, Ok, Err, is_some, refl, sym, ap, subst, arith}
+use Rattle.std.specs.Prelude.{if◌then◌else◌}
 use Rattle.xk_base.specs.declared.events.Event.TheVariants.{Tick}
 use Rattle.machine_model.specs.State.Machine.{Machine}
 use Rattle.machine_model.specs.State.Order.{actor, turn}
@@ -12,16 +13,17 @@ use Rattle.machine_history.proofs.Histories.HistoryLemmas.{tick_idle, tick_met, 
 use Rattle.machine_history.proofs.Histories.LimitLemmas.{step_steps}
 use Rattle.event_player.specs.declared.telling.Telling.{Telling}
 use Rattle.event_player.specs.declared.ending.Ending.{Ending}
-use Rattle.event_player.specs.declared.ending.Ending.TheVariants.{Played, LimitMet}
+use Rattle.event_player.specs.declared.ending.Ending.TheVariants.{BadLine, Played, LimitMet}
 use Rattle.event_player.specs.declared.events.PlayFault.{PlayFault}
 use Rattle.event_player.specs.declared.events.PlayFault.TheVariants.{Write, Swap}
-use Rattle.event_player.specs.Gathering.{Gathered, Gathers, GathersPart, Text}
+use Rattle.event_player.specs.Gathering.{Gathered, Gathers, GathersPart, StaysSilent, Text}
 use Rattle.event_player.specs.History.{with_ending}
 use Rattle.event_player.specs.Rooms.{ComesFull, IsFull, Room}
-use Rattle.event_player.specs.Playing.{Comes, Plays, StaysNear}
+use Rattle.event_player.specs.Playing.{Comes, EndsAtNoLine, KeepsSilence, Plays, StaysNear}
 use Rattle.event_player.specs.Standing.{Stand}
 use Rattle.event_player.specs.Telling.{told}
 use Rattle.event_player.proofs.Playing.FullLemmas.{full_start, step_full, tick_full}
+use Rattle.event_player.proofs.Playing.GatheringLemmas.{gathers_silent, silent_after, silent_same}
 use Rattle.event_player.proofs.Playing.HistoryLemmas.{gathered_behind, gathered_nothing, gathered_same, gathered_stopped, met_steps, part_behind, part_front, part_same}
 use Rattle.event_player.proofs.Playing.StepLimitLemmas.{play_grows}
 
@@ -40,6 +42,28 @@ pub record DoesOne (tells : Telling) (limit : ℕ) (old mid : Stand) : Type 0 wh
   pub room : mid.room ≡ old.room
   pub trusted : old.trusted ≡ true → StepsTo tells old mid
   pub near : old.near ≡ true → ((mid.near ≡ true) × StepsTo tells old mid) ⊎ IsFull old.room (step old.machine).machine
+  pub silent : StaysSilent tells old.text mid.text
+
+-- ---- how an event ends, and whether the sink is touched
+
+-- after a silent front
+pub silence_later : (tells : Telling) (before mid after : Text) (result : Result Ending PlayFault) → StaysSilent tells before mid → KeepsSilence tells mid after result
+    → KeepsSilence tells before after result
+silence_later tells before mid after (Ok ending) first second = silent_after tells before mid after first second
+silence_later tells before mid after (Err Swap) first second = silent_after tells before mid after first second
+silence_later tells before mid after (Err Write) first second = tt
+
+-- the limit or the end of its steps is where a history of an event ends
+pub ends_no_line : (h : kernel.History) (ending : Ending) → (with_ending Played h).ending ≡ ending → EndsAtNoLine (Ok ending)
+ends_no_line h ending is = go h.met ending is
+  where
+    go : (met : Bool) (ending : Ending) → (if met then LimitMet else Played) ≡ ending → EndsAtNoLine (Ok ending)
+    go met Played is = tt
+    go met LimitMet is = tt
+    go true (BadLine line) is = cc
+    go false (BadLine line) is = cc
+
+-- ---- the rest of a tick
 
 -- the tick is the step, and then the tick of one step fewer
 one_step : (n limit : ℕ) (old mid : Stand) → 1 ≤ n → is_some (actor old.machine) ≡ true → old.machine.steps ≢ limit → mid.machine ≡ (step old.machine).machine
@@ -52,35 +76,55 @@ one_step n limit old mid some ready more there =
 later_met : (n done : ℕ) (m : Machine) → (with_ending Played (play (Tick n) done m)).ending ≡ LimitMet → m.steps ≤ done
 later_met n done m met = omega (arith, play_grows (Tick n) done m, met_steps (Tick n) done m met)
 
-comes_later : (tells : Telling) (n limit : ℕ) (old mid new : Stand) (result : Result Ending PlayFault) → 1 ≤ n → is_some (actor old.machine) ≡ true
-    → old.machine.steps ≢ limit → StepsTo tells old mid → Comes tells (Tick (n - 1)) limit mid new result → Comes tells (Tick n) limit old new result
-comes_later tells n limit old mid new (Ok ending) some ready more did comes =
-    let one = one_step n limit old mid some ready more did.machine in (
+-- the states of the rest of a tick, in the room and on the machine of its first step
+rest_full : (tells : Telling) (n limit : ℕ) (old mid : Stand) → 1 ≤ n → is_some (actor old.machine) ≡ true → old.machine.steps ≢ limit → mid.room ≡ old.room
+    → mid.machine ≡ (step old.machine).machine → ComesFull mid.room mid.machine (event_moments (Tick (n - 1)) limit mid.machine)
+    → ComesFull old.room old.machine (event_moments (Tick n) limit old.machine)
+rest_full tells n limit old mid some ready more room there later =
+    let A : Machine → Type 0 = λ x. ComesFull mid.room x (event_moments (Tick (n - 1)) limit x) in
+    let B : Room → Type 0 = λ r. ComesFull r (step old.machine).machine (event_moments (Tick (n - 1)) limit (step old.machine).machine) in
+    tick_full old.room n limit old.machine some ready more (subst B room (subst A there later))
+
+comes_later : (tells : Telling) (n limit : ℕ) (old mid new : Stand) (result : Result Ending PlayFault) → 1 ≤ n → DoesOne tells limit old mid
+    → StepsTo tells old mid → Comes tells (Tick (n - 1)) limit mid new result → Comes tells (Tick n) limit old new result
+comes_later tells n limit old mid new (Ok ending) some does did comes =
+    let one = one_step n limit old mid some does.actor does.more did.machine in (
       gathered_same tells old.text new.text _ _ ending (ap (with_ending Played) one)
           (gathered_behind tells old.text mid.text new.text (step old.machine).records (with_ending Played (play (Tick (n - 1)) limit mid.machine)) ending did.gathered comes.0),
       comes.1 ∙ sym (ap (λ (h : kernel.History). h.machine) one),
     )
-comes_later tells n limit old mid new (Err Write) some ready more did comes =
-    let one = one_step n limit old mid some ready more did.machine in
+comes_later tells n limit old mid new (Err Write) some does did comes =
+    let one = one_step n limit old mid some does.actor does.more did.machine in
     part_same tells old.text new.text _ _ (ap (with_ending Played) one)
     (part_behind tells old.text mid.text new.text (step old.machine).records (with_ending Played (play (Tick (n - 1)) limit mid.machine)) did.gathered comes)
-comes_later tells n limit old mid new (Err Swap) some ready more did comes =
-    let done : ℕ = comes.done in
-    let grown = later_met (n - 1) done mid.machine comes.met in
-    let steps : mid.machine.steps ≡ old.machine.steps + 1 = ap (λ (m : Machine). m.steps) did.machine ∙ step_steps old.machine ready in
+comes_later tells n limit old mid new (Err Swap) some does did comes =
+    let done : ℕ = comes.some.done in
+    let grown = later_met (n - 1) done mid.machine comes.some.met in
+    let steps : mid.machine.steps ≡ old.machine.steps + 1 = ap (λ (m : Machine). m.steps) did.machine ∙ step_steps old.machine does.actor in
     let other : old.machine.steps ≢ done = λ e. absurd (omega (arith, e, grown, steps)) in
+    let behind : old.machine.steps ≢ done + 1 = λ e. absurd (omega (arith, e, grown, steps)) in
     let one : with_ending Played (play (Tick n) done old.machine) ≡ with_ending Played (kernel.behind (step old.machine).records (play (Tick (n - 1)) done mid.machine)) =
-    ap (with_ending Played) (one_step n done old mid some ready other did.machine) in
+    ap (with_ending Played) (one_step n done old mid some does.actor other did.machine) in
     let wrote = gathered_same tells old.text new.text (with_ending Played (play (Tick n) done old.machine)) _ LimitMet one
-    (gathered_behind tells old.text mid.text new.text (step old.machine).records (with_ending Played (play (Tick (n - 1)) done mid.machine)) LimitMet did.gathered (comes.met, comes.gathered)) in
-    record { done = done; within = comes.within; met = wrote.0; gathered = wrote.1 }
+    (gathered_behind tells old.text mid.text new.text (step old.machine).records (with_ending Played (play (Tick (n - 1)) done mid.machine)) LimitMet did.gathered (comes.some.met, comes.some.gathered)) in
+    record {
+      some = record { done = done; within = comes.some.within; met = wrote.0; gathered = wrote.1 };
+      soon = λ near. go behind (does.near near);
+    }
+  where
+    go : old.machine.steps ≢ comes.some.done + 1 → ((mid.near ≡ true) × StepsTo tells old mid) ⊎ IsFull old.room (step old.machine).machine
+        → ComesFull old.room old.machine (event_moments (Tick n) (comes.some.done + 1) old.machine)
+    go behind (inl both) = rest_full tells n (comes.some.done + 1) old mid some does.actor behind does.room did.machine (comes.soon both.0)
+    go behind (inr crowd) = step_full old.room n (comes.some.done + 1) old.machine some does.actor behind crowd
 
 pub plays_later : (tells : Telling) (n limit : ℕ) (old mid new : Stand) (result : Result Ending PlayFault) → 1 ≤ n → DoesOne tells limit old mid
     → Plays tells (Tick (n - 1)) limit mid new result → Plays tells (Tick n) limit old new result
 plays_later tells n limit old mid new result some one plays = record {
   trusted = λ trusted.
-      comes_later tells n limit old mid new result some one.actor one.more (one.trusted trusted) (plays.trusted (one.trust ∙ trusted));
+      comes_later tells n limit old mid new result some one (one.trusted trusted) (plays.trusted (one.trust ∙ trusted));
   near = λ near. go (one.near near);
+  ends = plays.ends;
+  silent = silence_later tells old.text mid.text new.text result one.silent plays.silent;
 }
   where
     full : (m : Machine) → m ≡ (step old.machine).machine → ComesFull mid.room m (event_moments (Tick (n - 1)) limit m) → ComesFull old.room old.machine (event_moments (Tick n) limit old.machine)
@@ -91,7 +135,7 @@ plays_later tells n limit old mid new result some one plays = record {
 
     rest : StepsTo tells old mid → (StaysNear new result × Comes tells (Tick (n - 1)) limit mid new result) ⊎ ComesFull mid.room mid.machine (event_moments (Tick (n - 1)) limit mid.machine)
         → (StaysNear new result × Comes tells (Tick n) limit old new result) ⊎ ComesFull old.room old.machine (event_moments (Tick n) limit old.machine)
-    rest did (inl both) = inl (both.0, comes_later tells n limit old mid new result some one.actor one.more did both.1)
+    rest did (inl both) = inl (both.0, comes_later tells n limit old mid new result some one did both.1)
     rest did (inr later) = inr (full mid.machine did.machine later)
 
     go : ((mid.near ≡ true) × StepsTo tells old mid) ⊎ IsFull old.room (step old.machine).machine
@@ -109,6 +153,8 @@ pub plays_surely : (tells : Telling) (n limit : ℕ) (old new : Stand) (ending :
 plays_surely tells n limit old new ending stays comes = record {
   trusted = λ trusted. comes;
   near = λ near. inl (stays near, comes);
+  ends = ends_no_line (play (Tick n) limit old.machine) ending comes.0.0;
+  silent = gathers_silent tells old.text new.text (play (Tick n) limit old.machine).records comes.0.1;
 }
 
 -- at the limit
@@ -160,6 +206,8 @@ pub plays_unwritten : (tells : Telling) (n limit : ℕ) (old new : Stand) → 1 
 plays_unwritten tells n limit old new some one = record {
   trusted = λ trusted. comes_unwritten tells n limit old new some one.actor one.more (one.trusted trusted);
   near = λ near. go (one.near near);
+  ends = tt;
+  silent = tt;
 }
   where
     go : ((new.near ≡ true) × GathersPart old.text new.text (told tells (step old.machine).records)) ⊎ IsFull old.room (step old.machine).machine
@@ -176,6 +224,11 @@ plays_swap tells n limit old new some ready more within same crowd =
     let P : Text → Type 0 = λ text. Gathered tells old.text text (with_ending Played (play (Tick n) done old.machine)) LimitMet in
     let wrote : P new.text = subst P (sym same) (gathered_same tells old.text old.text _ _ LimitMet is (gathered_stopped tells old.text Played old.machine)) in
     record {
-      trusted = λ trusted. record { done = done; within = within; met = wrote.0; gathered = wrote.1 };
+      trusted = λ trusted. record {
+        some = record { done = done; within = within; met = wrote.0; gathered = wrote.1 };
+        soon = λ near. step_full old.room n (done + 1) old.machine some ready (λ e. absurd (omega (arith, e))) (crowd near);
+      };
       near = λ near. inr (step_full old.room n limit old.machine some ready more (crowd near));
+      ends = tt;
+      silent = silent_same tells old.text new.text same;
     }

@@ -1,20 +1,20 @@
 -- What the calls say of a memory that stays sound.
-use Rattle.std.proofs.Common.{◌≡◌, ℕ, ◌<◌, Bool, true, false, ◌||◌, ◌==◌, None, ap, ◌∙◌, inl, inr, arith}
+use Rattle.std.proofs.Common.{◌≡◌, ℕ, ◌+◌, ◌<◌, ◌≤◌, Bool, true, false, ◌||◌, ◌==◌, None, ap, sym, subst, ◌∙◌, inl, inr, arith}
 use Rattle.std.specs.Prelude.{is_some}
 use Rattle.std.proofs.lemmas.Bool.{both_ways, eqb-true, or_right}
 use Rattle.xk_base.specs.Tables.Counting.{count_below}
-use Rattle.xk_base.proofs.CountingLemmas.{count_below-none}
+use Rattle.xk_base.proofs.CountingLemmas.{count_below-le, count_below-none, count_below-one}
 use Rattle.xk_base.specs.declared.ids.Slot.{Slot as SlotNumber}
 use Rattle.phys_pages.specs.declared.infos.Seat.TheVariants.{Slot}
-use Rattle.phys_pages.specs.Owners.{extent, infos, slot_seat}
+use Rattle.phys_pages.specs.Owners.{OwnerTable, extent, infos, slot_seat}
 use Rattle.phys_pages.proofs.OwnerLemmas.{infos-within}
 use Rattle.ledger_model.proofs.LedgerLemmas.{cases_Option}
 use Rattle.sv32_space.specs.Tie.{Held}
 use Rattle.vm_memory.specs.declared.memory.Memory.{Memory}
-use Rattle.vm_memory.specs.Bytes.{MeansBytes, is_known, none_out, used_slots}
+use Rattle.vm_memory.specs.Bytes.{MeansBytes, is_known, none_out, pages_out, used_slots}
 use Rattle.xk_ports.specs.declared.store.SwapStore.{Ghosts as SwapStore}
 use Rattle.xk_ports.specs.Keeping.{KeepsStore, tells_truly}
-use Rattle.vm_memory.specs.Memory.{size}
+use Rattle.vm_memory.specs.Memory.{Size, size}
 use Rattle.vm_memory.specs.Pages.Changing.{ChangesPagesAlone}
 use Rattle.vm_memory.proofs.Changing.CountLemmas.{zero_each}
 
@@ -52,6 +52,30 @@ pub none_out-kept : {W : Type 0} (old new : Memory W) → ((s : SlotNumber) → 
     → none_out old ≡ true → none_out new ≡ true
 none_out-kept old new kept none = slots-none_out new (λ s. kept s (none_out-slots old none s))
 
+-- .. and no more pages are out than before
+pub no_more_used : (old new : OwnerTable) → (extent new).slots ≡ (extent old).slots
+    → ((s : SlotNumber) → infos old (Slot s) ≡ None → infos new (Slot s) ≡ None) → used_slots new ≤ used_slots old
+no_more_used old new table kept =
+    let less : count_below (extent old).slots (λ k. is_some (infos new (slot_seat k))) ≤ used_slots old =
+    count_below-le (extent old).slots (λ k. is_some (infos new (slot_seat k))) (λ k. is_some (infos old (slot_seat k))) still in
+    subst (λ n. count_below n (λ k. is_some (infos new (slot_seat k))) ≤ used_slots old) (sym table) less
+  where
+    still : (k : ℕ) → k < (extent old).slots → is_some (infos new (slot_seat k)) ≡ true → is_some (infos old (slot_seat k)) ≡ true
+    still k low used = elim (cases_Option (infos old (slot_seat k))) [
+      | inl free ↦ absurd (both_ways (is_some (infos new (slot_seat k))) (ap is_some (kept (record { 0 = k }) free)) used)
+      | inr some ↦ ap is_some some.1
+    ]
+
+-- a page at a slot that was free is one more, where all other slots stay
+pub one_more_used : (old new : OwnerTable) (s : SlotNumber) → (extent new).slots ≡ (extent old).slots → s.0 < (extent old).slots
+    → infos old (Slot s) ≡ None → is_some (infos new (Slot s)) ≡ true
+    → ((r : SlotNumber) → (r.0 ≡ s.0 → ⊥) → infos new (Slot r) ≡ infos old (Slot r)) → used_slots new ≡ used_slots old + 1
+one_more_used old new s table low free used rest =
+    let more : count_below (extent old).slots (λ k. is_some (infos new (slot_seat k))) ≡ used_slots old + 1 =
+    count_below-one (extent old).slots s.0 (λ k. is_some (infos new (slot_seat k))) (λ k. is_some (infos old (slot_seat k))) low used (ap is_some free)
+    (λ k l apart. ap is_some (rest (record { 0 = k }) apart)) in
+    ap (λ n. count_below n (λ k. is_some (infos new (slot_seat k)))) table ∙ more
+
 pub either_kept : (a b c d : Bool) → c ≡ a → (b ≡ true → d ≡ true) → (a || b) ≡ true → (c || d) ≡ true
 either_kept true b c d same kept h = ap (λ x. x || d) same
 either_kept false b c d same kept h = ap (λ x. x || d) same ∙ kept h
@@ -64,6 +88,9 @@ means-kept S old new same kept means =
 -- .. as a change of pages alone does
 pub alone-none_out : {W : Type 0} (old new : Memory W) → ChangesPagesAlone old new → none_out old ≡ true → none_out new ≡ true
 alone-none_out old new rest = none_out-kept old new rest.slots
+
+pub alone-no_more : {W : Type 0} (old new : Memory W) → ChangesPagesAlone old new → pages_out new ≤ pages_out old
+alone-no_more old new rest = no_more_used old.owners new.owners (ap (λ (s : Size). s.slots) rest.size) rest.slots
 
 pub alone-means : {W : Type 0} (S : SwapStore W) (old new : Memory W) → ChangesPagesAlone old new
     → MeansBytes S old → MeansBytes S new

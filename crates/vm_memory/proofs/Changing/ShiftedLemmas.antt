@@ -1,5 +1,5 @@
 -- A memory whose pages have moved between frames and slots.
-use Rattle.std.proofs.Common.{◌≡◌, ◌≢◌, ℕ, ◌+◌, ◌*◌, ◌≤◌, Bool, true, false, ◌&&◌, ◌||◌, Option, Some, None, refl, sym, ap, subst, ◌∙◌, inl, inr, arith}
+use Rattle.std.proofs.Common.{◌≡◌, ◌≢◌, ℕ, ◌+◌, ◌*◌, ◌<◌, ◌≤◌, Bool, true, false, ◌&&◌, ◌||◌, Option, Some, None, refl, sym, ap, subst, ◌∙◌, inl, inr, arith}
 use Rattle.std.specs.Prelude.{IfNone, IfSome, IsTrue, is_some, Result, Ok, Err, OnOk}
 use Rattle.std.specs.Option.{option_map}
 use Rattle.std.proofs.lemmas.Bool.{and_parts, both_ways, cond-true, cond-false, ne_eqb}
@@ -37,7 +37,7 @@ use Rattle.vm_memory.specs.Bytes.{is_known, none_out, used_frames, used_slots}
 use Rattle.vm_memory.specs.Memory.{blank_ledger, capacity_of, ledger, processes}
 use Rattle.vm_memory.specs.Pages.Exchanging.{IsInFrame, MovesPages}
 use Rattle.vm_memory.specs.Sound.{IsSound}
-use Rattle.vm_memory.proofs.Changing.CallLemmas.{none_out-kept, none_out-slots}
+use Rattle.vm_memory.proofs.Changing.CallLemmas.{no_more_used, none_out-kept, none_out-slots, one_more_used}
 use Rattle.vm_memory.proofs.Changing.CountLemmas.{each_counts, seats_count}
 use Rattle.vm_memory.proofs.Changing.SoundMemoryLemmas.{bare-ledger}
 
@@ -180,6 +180,15 @@ pub all_slots : (owners : OwnerTable) (o : Option SlotNumber) → IfNone o (AreS
 all_slots owners None used h = used
 all_slots owners (Some s) used h = absurd cc
 
+-- what is told of a slot that is found
+pub some_slot_within : (owners : OwnerTable) (o : Option SlotNumber) → IfSome o (λ s. HasSeat (extent owners) (Slot s)) → (s : SlotNumber) → o ≡ Some s
+    → HasSeat (extent owners) (Slot s)
+some_slot_within owners o within s e = subst (λ r. IfSome r (λ t. HasSeat (extent owners) (Slot t))) e within
+
+pub some_slot_free : (owners : OwnerTable) (o : Option SlotNumber) → IfSome o (λ s. infos owners (Slot s) ≡ None) → (s : SlotNumber) → o ≡ Some s
+    → infos owners (Slot s) ≡ None
+some_slot_free owners o free s e = subst (λ r. IfSome r (λ t. infos owners (Slot t) ≡ None)) e free
+
 pub kept_seat : (old new : Extent) → new ≡ old → (f : FrameNumber) → HasSeat old (Frame f) → HasSeat new (Frame f)
 kept_seat old new same f within = subst (λ t. HasSeat t (Frame f)) (sym same) within
 
@@ -230,6 +239,13 @@ module _ {W : Type 0} (m : Memory W) (ram : RamBytes) (owners : OwnerTable) (f :
   goes_out used n same none = absurd (both_ways (is_some (infos owners (Slot to)))
       (ap is_some (ap (λ o. infos o (Slot to)) (sym same) ∙ none_out-slots n none to)) (ap is_some slot_used ∙ used))
 
+  -- .. one more
+  pub one_out : (extent owners).slots ≡ (extent m.owners).slots → HasSeat (extent m.owners) (Slot to) → infos m.owners (Slot to) ≡ None
+      → is_some (infos m.owners (Frame f)) ≡ true → used_slots owners ≡ used_slots m.owners + 1
+  one_out table within free used = one_more_used m.owners owners to table within free (ap is_some slot_used ∙ used)
+      (λ r apart. ap (λ I. I (Slot r)) moves.infos
+      ∙ cond-false (seat_eq (Slot r) (Slot to)) (infos m.owners (Frame f)) (infos m.owners (Slot r)) (ne_eqb r.0 to.0 apart))
+
   -- other entries stay
   pub stays_near : (keep : FrameNumber) → f.0 ≢ keep.0 → (at : Place) (side : Side) → entries (processes m) m.ram at ≡ Some (At side (Frame keep))
       → entries (procs_of (extent owners)) ram at ≡ Some (At side (Frame keep))
@@ -242,6 +258,16 @@ pub comes_near : {W : Type 0} (m : Memory W) (ram : RamBytes) (owners : OwnerTab
     → (at : Place) (side : Side) → entries (processes m) m.ram at ≡ Some (At side (Slot from)) → entries (procs_of (extent owners)) ram at ≡ Some (At side (Frame into))
 comes_near m ram owners from into moves at side e = ap (λ E. E at) moves.entries ∙ (ap (option_map (renamed_entry (Slot from) (Frame into))) e
     ∙ ap (λ s. Some (At side s)) (cond-true (seat_eq (Slot from) (Slot from)) (Frame into) (Slot from) (same_seat (Slot from))))
+
+-- .. and one page less is out
+pub one_in : {W : Type 0} (m : Memory W) (ram : RamBytes) (owners : OwnerTable) (from : SlotNumber) (into : FrameNumber)
+    → Moves (tables m.ram m.owners) (tables ram owners) (Slot from) (Frame into)
+    → (extent owners).slots ≡ (extent m.owners).slots → is_some (infos m.owners (Slot from)) ≡ true → used_slots m.owners ≡ used_slots owners + 1
+one_in m ram owners from into moves table used = one_more_used owners m.owners from (sym table)
+    (subst (λ n. from.0 < n) (sym table) (used_within m.owners (Slot from) used))
+    (ap (λ I. I (Slot from)) moves.infos ∙ put_here (infos m.owners) (Slot from) None) used
+    (λ r apart. sym (ap (λ I. I (Slot r)) moves.infos
+    ∙ cond-false (seat_eq (Slot r) (Slot from)) None (infos m.owners (Slot r)) (ne_eqb r.0 from.0 apart)))
 
 -- .. also after another went out
 pub brought_near : {W E : Type 0} (m : Memory W) (ram : RamBytes) (owners : OwnerTable) (n : Memory W) (from : SlotNumber) (into : FrameNumber)
@@ -262,6 +288,9 @@ module _ {W : Type 0} (S : SwapStore W) (m : Memory W) (sound : IsSound S.slot_c
 
   pub still_none : none_out k ≡ true → none_out m ≡ true
   still_none = none_out-kept k m (λ s free. ap (λ I. I (Slot s)) (sym stays.infos) ∙ free)
+
+  pub still_as_many : (extent owners).slots ≡ (extent m.owners).slots → used_slots owners ≤ used_slots m.owners
+  still_as_many table = no_more_used m.owners owners table (λ s free. ap (λ I. I (Slot s)) stays.infos ∙ free)
 
   -- where no page is out, all bytes are in frames
   pub still_whole : none_out m ≡ true → ledger S.held k ≡ ledger S.held m

@@ -133,6 +133,7 @@ module _ {W : Type 0} (S : SwapStore W) (m n : Memory W)
       tie = λ s. sound-tied S n b.moves.sound;
       out = λ none usable. subst IsUsable (sym (b.none none)) usable;
       none = brings_none;
+      no_more = b.no_more;
       store = b.moves.store;
     }
 

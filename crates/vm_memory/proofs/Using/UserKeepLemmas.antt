@@ -33,6 +33,7 @@ rest_same S pid m = record {
   tie = λ s. sound-tied S m s;
   out = λ none usable. usable;
   none = λ none. none;
+  no_more = omega arith;
   store = record { honest = refl; told = refl; slots = refl; preparations = refl; never_falls = omega arith };
 }
 
@@ -56,6 +57,7 @@ module _ {W : Type 0} (S : SwapStore W)
     tie = λ s. sound-tied S _ (stored_sound S m sound pid va width value aligned h.frame h.target);
     out = λ none usable. usable;
     none = λ none. none;
+    no_more = omega arith;
     store = record { honest = refl; told = refl; slots = refl; preparations = refl; never_falls = omega arith };
   })
 

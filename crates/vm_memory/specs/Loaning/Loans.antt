@@ -1,14 +1,13 @@
 -- What each call that begins, changes or ends a loan, and each that moves pages, keeps of a memory.
 use Rattle.xk_ports.specs.declared.store.SwapStore.{Ghosts as SwapStore}
-use Rattle.std.specs.Prelude.{◌≡◌, ℕ, Bool, true, None}
+use Rattle.std.specs.Prelude.{◌≡◌, ℕ, Bool, true}
 use Rattle.std.specs.Option.{option_map_or}
-use Rattle.phys_pages.specs.declared.infos.Seat.{Seat}
-use Rattle.phys_pages.specs.Owners.{infos}
 use Rattle.ledger_model.specs.Loans.{LoanRun}
 use Rattle.sv32_space.specs.Tie.{Held}
 use Rattle.vm_memory.specs.declared.memory.Memory.{Memory}
 use Rattle.vm_memory.specs.Bytes.{MeansBytes, none_out}
 use Rattle.vm_memory.specs.Memory.{has_failed, size, store_of}
+use Rattle.vm_memory.specs.Pages.Changing.{TakesNoSeat}
 use Rattle.vm_memory.specs.Sound.{IsSound}
 use Rattle.vm_memory.specs.Tie.{IsTied}
 
@@ -19,8 +18,7 @@ pub record KeepsSeats {W : Type 0} (S : SwapStore W) (old new : Memory W) : Type
   pub size : size new ≡ size old
   pub store : store_of new ≡ store_of old
   pub failed : has_failed new ≡ has_failed old
-  -- A seat without a page has none afterwards: no page goes out, and none comes in.
-  pub seats : (s : Seat) → infos old.owners s ≡ None → infos new.owners s ≡ None
+  pub seats : TakesNoSeat old new
   pub none : none_out old ≡ true → none_out new ≡ true
   pub means : MeansBytes S old → MeansBytes S new
 

@@ -22,6 +22,10 @@ pub record ChangesPagesAlone {W : Type 0} (old new : Memory W) : Type 0 where
   -- a slot without a page has none afterwards
   pub slots : (s : SlotNumber) → infos old.owners (Slot s) ≡ None → infos new.owners (Slot s) ≡ None
 
+-- a seat without a page has none afterwards: no page goes out, and none comes in
+abbrev pub TakesNoSeat : {W : Type 0} → Memory W → Memory W → Type 0
+TakesNoSeat old new = (s : Seat) → infos old.owners s ≡ None → infos new.owners s ≡ None
+
 -- a frame of the table in which no page stands
 pub record IsFreeFrame (owners : OwnerTable) (f : ℕ) : Type 0 where
   pub within : HasSeat (extent owners) (frame_seat f)

@@ -1,5 +1,5 @@
 -- Pages that come in to frames and go out to slots.
-use Rattle.std.specs.Prelude.{◌≡◌, ℕ, Bool, true, IsTrue, Option, Some, None, if◌then◌else◌}
+use Rattle.std.specs.Prelude.{◌≡◌, ℕ, ◌≤◌, Bool, true, IsTrue, Option, Some, None, if◌then◌else◌}
 use Rattle.xk_base.specs.declared.ids.Frame.{Frame as FrameNumber}
 use Rattle.xk_base.specs.declared.ids.Slot.{Slot as SlotNumber}
 use Rattle.xk_base.specs.declared.pages.Access.{Access}
@@ -14,7 +14,7 @@ use Rattle.sv32_space.specs.declared.sides.Side.{Side}
 use Rattle.xk_ports.specs.declared.store.SwapStore.{Ghosts as SwapStore}
 use Rattle.xk_ports.specs.Keeping.{KeepsStore}
 use Rattle.vm_memory.specs.declared.memory.Memory.{Memory}
-use Rattle.vm_memory.specs.Bytes.{is_known, none_out}
+use Rattle.vm_memory.specs.Bytes.{is_known, none_out, pages_out}
 use Rattle.vm_memory.specs.Memory.{ledger, size, store_of}
 use Rattle.vm_memory.specs.Sound.{IsSound}
 
@@ -32,6 +32,8 @@ pub record MovesPages {W : Type 0} (S : SwapStore W)
 pub record BringsIn {W : Type 0} (S : SwapStore W)
     (old new : Memory W) : Type 0 where
   pub moves : MovesPages S old new
+  -- no more pages are out: one goes out only in place of the one that comes in
+  pub no_more : pages_out new ≤ pages_out old
   -- where no page was out, nothing changes
   pub none : none_out old ≡ true → new ≡ old
 

@@ -33,6 +33,7 @@ rest_over {W} {pid} {a} {b} {c} S x y = record {
   tie = λ s. y.tie (x.sound s);
   out = λ none usable. y.out (x.none none) (x.out none usable);
   none = λ none. y.none (x.none none);
+  no_more = omega (arith, x.no_more, y.no_more);
   store = store_over S (store_of a) (store_of b) (store_of c) x.store y.store;
 }
   where

@@ -1,5 +1,5 @@
 -- Memory as the instructions of a process see it, and what is kept besides.
-use Rattle.std.specs.Prelude.{◌≡◌, ◌≢◌, ℕ, ◌%◌, Bool, true, false, not, is_some, Option, Some, None, if◌then◌else◌}
+use Rattle.std.specs.Prelude.{◌≡◌, ◌≢◌, ℕ, ◌≤◌, ◌%◌, Bool, true, false, not, is_some, Option, Some, None, if◌then◌else◌}
 use Rattle.std.specs.Option.{option_map_or}
 use Rattle.xk_base.specs.UserMemory.{Memory as SeenMemory, Content, Seen}
 use Rattle.xk_base.specs.declared.ids.Pid.{Pid}
@@ -10,7 +10,7 @@ use Rattle.ledger_model.specs.Reach.{reach}
 use Rattle.sv32_space.specs.Tie.{Held}
 use Rattle.vm_memory.specs.declared.memory.Memory.{Memory}
 use Rattle.vm_memory.specs.Using.Access.{contents_reached}
-use Rattle.vm_memory.specs.Bytes.{means_bytes, none_out, MeansBytes}
+use Rattle.vm_memory.specs.Bytes.{means_bytes, none_out, pages_out, MeansBytes}
 use Rattle.xk_ports.specs.declared.store.SwapStore.{Ghosts as SwapStore}
 use Rattle.xk_ports.specs.Keeping.{KeepsStore}
 use Rattle.xk_base.specs.Numbers.Windows.{page_of}
@@ -64,4 +64,6 @@ pub record KeepsRest {W : Type 0} (S : SwapStore W)
   pub tie : IsSound S.slot_count old → IsTied S.held new
   pub out : none_out old ≡ true → IsUsable old → IsUsable new
   pub none : none_out old ≡ true → none_out new ≡ true
+  -- no more pages are out: one goes out only in place of one that comes in
+  pub no_more : pages_out new ≤ pages_out old
   pub store : KeepsStore S (store_of old) (store_of new)

@@ -16,7 +16,7 @@ ghost use Rattle.sv32_space.specs.declared.sides.Entry.TheVariants.{At, Free, On
 ghost use Rattle.sv32_space.specs.Spaces.{IsMade};
 ghost use Rattle.sv32_space.specs.SpelledEntries.{IsEntry, entries, entry_of_kind};
 ghost use Rattle.sv32_space.specs.Spellings.{IsKind};
-ghost use Rattle.vm_memory.specs.Pages.Changing.{IsFreeFrame, ChangesPagesAlone, own_right, owned_in};
+ghost use Rattle.vm_memory.specs.Pages.Changing.{IsFreeFrame, ChangesPagesAlone, own_right, owned_in, TakesNoSeat};
 ghost use Rattle.vm_memory.specs.Memory.{IsUsable, capacity_of, frames_for_pages, ledger, processes, ram_of};
 ghost use Rattle.vm_memory.specs.Sound.{IsSound};
 
@@ -131,6 +131,7 @@ impl<W: SwapStore> Memory<W> {
         ensures sound { IsSound W.slot_count self.new }
         ensures ledger { ledger W.held self.new ≡ make_console at w (ledger W.held self.old) }
         ensures rest { ChangesPagesAlone self.old self.new }
+        ensures seats { TakesNoSeat self.old self.new }
     {
         set_entry(&mut self.ram, at, Entry::OnConsole { w });
     }
@@ -142,6 +143,7 @@ impl<W: SwapStore> Memory<W> {
         ensures sound { IsSound W.slot_count self.new }
         ensures ledger { ledger W.held self.new ≡ remove (in_run at 1) (ledger W.held self.old) }
         ensures rest { ChangesPagesAlone self.old self.new }
+        ensures seats { TakesNoSeat self.old self.new }
     {
         match self.owned(at) {
             Owned::Nothing => {}
@@ -162,6 +164,7 @@ impl<W: SwapStore> Memory<W> {
         ensures sound { IsSound W.slot_count self.new }
         ensures ledger { ledger W.held self.new ≡ reduce (in_run at 1) right (ledger W.held self.old) }
         ensures rest { ChangesPagesAlone self.old self.new }
+        ensures seats { TakesNoSeat self.old self.new }
     {
         match self.owned(at) {
             Owned::Nothing => {}

@@ -4,14 +4,14 @@
 //! free any more, another page goes out to a free slot. Between the halves the memory counts as
 //! failed, and so it stays where the store fails.
 
-ghost use Rattle.std.specs.Prelude.{◌≡◌, ◌≢◌, ℕ, Some, None, true, false, IfOk, OnOk, OnErr};
+ghost use Rattle.std.specs.Prelude.{◌≡◌, ◌≢◌, ◌+◌, ◌≤◌, ℕ, Some, None, true, false, IfOk, OnOk, OnErr};
 ghost use Rattle.ledger_model.specs.Reach.{owner_may};
 ghost use Rattle.phys_pages.specs.Owners.{HasSeat, IsUsed, extent, infos};
 ghost use Rattle.sv32_space.specs.EntryReach.{entry_may, side_may};
 ghost use Rattle.sv32_space.specs.SpelledEntries.{entries};
 ghost use Rattle.sv32_space.specs.declared.sides.Entry.TheVariants.{At};
 ghost use Rattle.sv32_space.specs.declared.sides.Side.{Side};
-ghost use Rattle.vm_memory.specs.Bytes.{MeansBytesOver, is_out, none_out};
+ghost use Rattle.vm_memory.specs.Bytes.{MeansBytesOver, is_out, none_out, pages_out};
 ghost use Rattle.vm_memory.specs.Memory.{IsUsable, has_failed, ledger, processes, ram_of, store_of};
 ghost use Rattle.vm_memory.specs.Pages.Changing.{IsFreeFrame};
 ghost use Rattle.vm_memory.specs.Pages.Exchanging.{BringsIn, IsInFrame, MovesPages, slot_reached};
@@ -104,6 +104,7 @@ impl<W: SwapStore> Memory<W> {
         // bytes also where no page is out before and after
         ensures over { MeansBytesOver W.SwapStore self.old self.new → ledger W.held self.new ≡ ledger W.held self.old }
         ensures none { none_out self.new ≡ true → none_out self.old ≡ true }
+        ensures one { pages_out self.new ≤ pages_out self.old + 1 }
         ensures keep { (at : Place) (side : Side) → entries (processes self.old) (ram_of self.old) at ≡ Some (At side (Seat.Frame keep))
             → entries (processes self.new) (ram_of self.new) at ≡ Some (At side (Seat.Frame keep)) }
         ensures usable { OnOk result (IsUsable self.new) }
@@ -130,6 +131,7 @@ impl<W: SwapStore> Memory<W> {
         requires usable { IsUsable self.old }
         requires used { IsUsed self.old.owners (Seat.Slot from) }
         ensures moves { MovesPages W.SwapStore self.old self.new }
+        ensures no_more { pages_out self.new ≤ pages_out self.old }
         ensures near { OnOk result ((at : Place) (side : Side) → entries (processes self.old) (ram_of self.old) at
             ≡ Some (At side (Seat.Slot from))
             → IsInFrame (entries (processes self.new) (ram_of self.new) at) side) }

@@ -10,9 +10,9 @@ ghost use Rattle.ledger_model.specs.Reach.{is_free};
 ghost use Rattle.ledger_model.specs.Steps.{make};
 ghost use Rattle.phys_pages.specs.Owners.{infos};
 ghost use Rattle.xk_base.specs.declared.ids.Slot.{Slot};
-ghost use Rattle.vm_memory.specs.Bytes.{MeansBytes, MeansBytesOver, none_out};
+ghost use Rattle.vm_memory.specs.Bytes.{MeansBytes, MeansBytesOver, none_out, pages_out};
 ghost use Rattle.xk_ports.specs.Keeping.{KeepsStore};
-ghost use Rattle.vm_memory.specs.Pages.Changing.{ChangesPagesAlone};
+ghost use Rattle.vm_memory.specs.Pages.Changing.{ChangesPagesAlone, TakesNoSeat};
 ghost use Rattle.vm_memory.specs.Pages.Making.{HasMadeFirst, MakesFirst, MakesPages, after_console, after_make, console_answer};
 ghost use Rattle.vm_memory.specs.Pages.Making.{make_answer, run_place};
 ghost use Rattle.vm_memory.specs.Memory.{IsUsable, capacity_of, frames_for_pages, has_failed, ledger, processes, room_in, size, store_of};
@@ -139,6 +139,7 @@ impl<W: SwapStore> Memory<W> {
         ensures cause { OnErr result (Rose (W.faults (store_of self.old)) (W.faults (store_of self.new))) }
         ensures full { OnErr result (frames_for_pages self.old < self.old.pages + n) }
         ensures near { self.old.pages + n ≤ frames_for_pages self.old → none_out self.old ≡ true → none_out self.new ≡ true }
+        ensures no_more { self.old.pages + n ≤ frames_for_pages self.old → pages_out self.new ≤ pages_out self.old }
     {
         let near = self.pages as u64 + n as u64 <= self.page_frames() as u64;
         if near {
@@ -185,6 +186,8 @@ impl<W: SwapStore> Memory<W> {
         // A page goes out only where there aren't frames for all pages.
         ensures near { pages (processes self.old) (ledger W.held self.old) + n ≤ frames_for_pages self.old → none_out self.old ≡ true
             → none_out self.new ≡ true }
+        ensures no_more { pages (processes self.old) (ledger W.held self.old) + n ≤ frames_for_pages self.old
+            → pages_out self.new ≤ pages_out self.old }
         ensures tie { IsTied W.held self.new }
         ensures size { size self.new ≡ size self.old }
         ensures store { KeepsStore W.SwapStore (store_of self.old) (store_of self.new) }
@@ -214,6 +217,8 @@ impl<W: SwapStore> Memory<W> {
         ensures tie { IsTied W.held self.new }
         ensures size { size self.new ≡ size self.old }
         ensures store { store_of self.new ≡ store_of self.old }
+        // No page goes out, and none comes in.
+        ensures seats { TakesNoSeat self.old self.new }
         ensures none { none_out self.old ≡ true → none_out self.new ≡ true }
         ensures means { MeansBytes W.SwapStore self.old → MeansBytes W.SwapStore self.new }
     {

@@ -1,12 +1,12 @@
 //! Pages that a process reaches, lent out.
 
 ghost use Rattle.std.specs.Borrow.{sem};
-ghost use Rattle.std.specs.Prelude.{◌≡◌, ℕ, Some, List, length, true, false, IsTrue, IfOk, OnOk, OnErr};
+ghost use Rattle.std.specs.Prelude.{◌≡◌, ◌≤◌, ℕ, Some, List, length, true, false, IsTrue, IfOk, OnOk, OnErr};
 ghost use Rattle.ledger_model.specs.Ledger.{Bytes};
 ghost use Rattle.ledger_model.specs.Loans.{bare};
 ghost use Rattle.ledger_model.specs.Reach.{reach};
 ghost use Rattle.vm_memory.specs.Using.Access.{contents_reached, reaches_bytes, write_page};
-ghost use Rattle.vm_memory.specs.Bytes.{MeansBytes, is_near, is_out, none_out};
+ghost use Rattle.vm_memory.specs.Bytes.{MeansBytes, is_near, is_out, none_out, pages_out};
 ghost use Rattle.xk_ports.specs.Keeping.{KeepsStore};
 ghost use Rattle.vm_memory.specs.Loaning.Lending.{LendsBytes, with_bytes_at};
 ghost use Rattle.vm_memory.specs.Memory.{IsUsable, has_failed, ledger, processes, size, store_of};
@@ -39,6 +39,7 @@ impl<W: SwapStore> Memory<W> {
         ensures means { MeansBytes W.SwapStore self.old → MeansBytes W.SwapStore self.new }
         // A page goes out only in place of one that was out.
         ensures none { none_out self.old ≡ true → self.new ≡ self.old }
+        ensures no_more { pages_out self.new ≤ pages_out self.old }
         ensures tie { IsTied W.held self.new }
         ensures size { size self.new ≡ size self.old }
         ensures store { KeepsStore W.SwapStore (store_of self.old) (store_of self.new) }
@@ -81,6 +82,7 @@ impl<W: SwapStore> Memory<W> {
         ensures store { (bytes : List ℕ) → store_of (with_bytes_at self.old at bytes) ≡ store_of self.old }
         ensures usable { (bytes : List ℕ) → IsUsable (with_bytes_at self.old at bytes) }
         ensures none { (bytes : List ℕ) → none_out (with_bytes_at self.old at bytes) ≡ none_out self.old }
+        ensures no_more { (bytes : List ℕ) → pages_out (with_bytes_at self.old at bytes) ≡ pages_out self.old }
         ensures means { (bytes : List ℕ) → MeansBytes W.SwapStore self.old → MeansBytes W.SwapStore (with_bytes_at self.old at bytes) }
     {
         let f = self.frame(at);

@@ -8,7 +8,7 @@ ghost use Rattle.ledger_model.specs.Reach.{role_at};
 ghost use Rattle.ledger_model.specs.RunTests.{any_lacks, any_on_loan, asks_more, is_on_loan};
 ghost use Rattle.ledger_model.specs.Steps.{forget, reduce, remove};
 ghost use Rattle.vm_memory.specs.Bytes.{MeansBytes, none_out};
-ghost use Rattle.vm_memory.specs.Pages.Changing.{ChangesPagesAlone};
+ghost use Rattle.vm_memory.specs.Pages.Changing.{ChangesPagesAlone, TakesNoSeat};
 ghost use Rattle.vm_memory.specs.Memory.{IsUsable, ledger, processes, size, store_of};
 ghost use Rattle.vm_memory.specs.Pages.Removing.{HasNoLoan, after_reduce, after_remove, clear_answer, reduce_answer, remove_answer};
 ghost use Rattle.vm_memory.specs.Sound.{IsSound};
@@ -27,6 +27,7 @@ impl<W: SwapStore> Memory<W> {
         ensures sound { IsSound W.slot_count self.new }
         ensures ledger { ledger W.held self.new ≡ remove (in_run (place_after first i) 1) (ledger W.held self.old) }
         ensures rest { ChangesPagesAlone self.old self.new }
+        ensures seats { TakesNoSeat self.old self.new }
     {
         match first.vpn.0.checked_add(i) {
             Some(vpn) => self.drop_page(Place {
@@ -45,6 +46,7 @@ impl<W: SwapStore> Memory<W> {
         ensures sound { IsSound W.slot_count self.new }
         ensures ledger { ledger W.held self.new ≡ reduce (in_run (place_after first i) 1) right (ledger W.held self.old) }
         ensures rest { ChangesPagesAlone self.old self.new }
+        ensures seats { TakesNoSeat self.old self.new }
     {
         match first.vpn.0.checked_add(i) {
             Some(vpn) => {
@@ -65,6 +67,7 @@ impl<W: SwapStore> Memory<W> {
         ensures sound { IsSound W.slot_count self.new }
         ensures ledger { ledger W.held self.new ≡ remove (in_run first n) (ledger W.held self.old) }
         ensures rest { ChangesPagesAlone self.old self.new }
+        ensures seats { TakesNoSeat self.old self.new }
     {
         for i in 0..n {
             self.drop_above(first, i);
@@ -79,6 +82,7 @@ impl<W: SwapStore> Memory<W> {
         ensures sound { IsSound W.slot_count self.new }
         ensures ledger { ledger W.held self.new ≡ reduce (in_run first n) right (ledger W.held self.old) }
         ensures rest { ChangesPagesAlone self.old self.new }
+        ensures seats { TakesNoSeat self.old self.new }
     {
         for i in 0..n {
             self.set_right_above(first, i, right);
@@ -100,6 +104,8 @@ impl<W: SwapStore> Memory<W> {
         ensures tie { IsTied W.held self.new }
         ensures size { size self.new ≡ size self.old }
         ensures store { store_of self.new ≡ store_of self.old }
+        // No page goes out, and none comes in.
+        ensures seats { TakesNoSeat self.old self.new }
         ensures none { none_out self.old ≡ true → none_out self.new ≡ true }
         ensures means { MeansBytes W.SwapStore self.old → MeansBytes W.SwapStore self.new }
     {
@@ -127,6 +133,8 @@ impl<W: SwapStore> Memory<W> {
         ensures tie { IsTied W.held self.new }
         ensures size { size self.new ≡ size self.old }
         ensures store { store_of self.new ≡ store_of self.old }
+        // No page goes out, and none comes in.
+        ensures seats { TakesNoSeat self.old self.new }
         ensures none { none_out self.old ≡ true → none_out self.new ≡ true }
         ensures means { MeansBytes W.SwapStore self.old → MeansBytes W.SwapStore self.new }
     {
@@ -153,6 +161,8 @@ impl<W: SwapStore> Memory<W> {
         ensures tie { IsTied W.held self.new }
         ensures size { size self.new ≡ size self.old }
         ensures store { store_of self.new ≡ store_of self.old }
+        // No page goes out, and none comes in.
+        ensures seats { TakesNoSeat self.old self.new }
         ensures none { none_out self.old ≡ true → none_out self.new ≡ true }
         ensures means { MeansBytes W.SwapStore self.old → MeansBytes W.SwapStore self.new }
     {
@@ -178,6 +188,7 @@ impl<W: SwapStore> Memory<W> {
             (ledger W.held self.old) }
         ensures no_loan { HasNoLoan (ledger W.held self.new) pid }
         ensures rest { ChangesPagesAlone self.old self.new }
+        ensures seats { TakesNoSeat self.old self.new }
     {
         let first = Place {
             pid,
@@ -199,6 +210,8 @@ impl<W: SwapStore> Memory<W> {
         ensures tie { IsTied W.held self.new }
         ensures size { size self.new ≡ size self.old }
         ensures store { store_of self.new ≡ store_of self.old }
+        // No page goes out, and none comes in.
+        ensures seats { TakesNoSeat self.old self.new }
         ensures none { none_out self.old ≡ true → none_out self.new ≡ true }
         ensures means { MeansBytes W.SwapStore self.old → MeansBytes W.SwapStore self.new }
     {

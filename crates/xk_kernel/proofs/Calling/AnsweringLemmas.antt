@@ -8,7 +8,6 @@ use Rattle.machine_model.specs.State.Changes.{answering, replies, settled}
 use Rattle.machine_model.specs.Ending.Ends.{is_joining, joiners_answered, waits_for_end}
 use Rattle.machine_model.specs.State.Machine.{Machine, Thread}
 use Rattle.machine_model.specs.State.Threads.{answer_to, give_answers, thread_id, with_answer}
-use Rattle.sv32_space.specs.Tie.{Held}
 use Rattle.vm_memory.specs.Memory.{processes}
 use Rattle.xk_base.proofs.CircleLemmas.{is_pid-bounds}
 use Rattle.xk_base.specs.Tables.Circle.{is_pid, thread_ids}

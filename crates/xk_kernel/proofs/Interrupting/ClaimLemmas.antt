@@ -1,10 +1,10 @@
 -- The claims of a kernel as its machine has them, and the calls that claim an interrupt and free one.
 use Rattle.std.proofs.Common.{◌≡◌, ℕ, ◌<◌, Bool, true, false, Option, Some, None, refl, sym, ap, ◌∙◌, nat_eq, arith}
 use Rattle.std.specs.Prelude.{◌%◌, ◌==◌, nat_lt, not, is_some, if◌then◌else◌, Result, Ok, Err}
-use Rattle.std.specs.Option.{option_map, option_map_or}
-use Rattle.std.proofs.lemmas.Bool.{eq-eqb, eqb-true}
+use Rattle.std.specs.Option.{option_map}
+use Rattle.std.proofs.lemmas.Bool.{eq-eqb}
 use Rattle.std.proofs.lemmas.Bool.Decides.{nat_tests}
-use Rattle.irq_claims.specs.ClaimMap.{ClaimMap, is_of, new_claim, with_pending}
+use Rattle.irq_claims.specs.ClaimMap.{is_of, new_claim, with_pending}
 use Rattle.irq_claims.specs.ClaimsOf.{claims_of}
 use Rattle.irq_claims.specs.declared.claims.Claim.{Claim as TableClaim}
 use Rattle.irq_claims.specs.declared.claims.Claims.{Claims}

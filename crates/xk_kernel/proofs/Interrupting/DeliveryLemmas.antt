@@ -1,5 +1,5 @@
 -- The delivery over the parts is the machine's.
-use Rattle.std.proofs.Common.{◌≡◌, Bool, ap, subst, sym}
+use Rattle.std.proofs.Common.{◌≡◌, Bool, subst, sym}
 use Rattle.std.specs.Prelude.{◌≤◌, is_some}
 use Rattle.irq_claims.specs.declared.claims.Claims.{Claims}
 use Rattle.irq_path.specs.Delivering.{Delivers as DeliversOver, taken}

@@ -1,6 +1,6 @@
 -- The kernel with a memory that has the same rights and loans.
 use Rattle.xk_ports.specs.declared.store.SwapStore.{Ghosts as SwapStore}
-use Rattle.std.proofs.Common.{◌≡◌, ℕ, Bool, IsSome, refl, sym, ap, ◌∙◌}
+use Rattle.std.proofs.Common.{◌≡◌, IsSome, refl, sym, ap, ◌∙◌}
 use Rattle.boot_plan.specs.Capacity.{capacity}
 use Rattle.xk_base.specs.declared.ids.Pid.{Pid}
 use Rattle.xk_base.specs.declared.ids.ThreadId.{ThreadId}

@@ -10,9 +10,11 @@ use Rattle.xk_base.specs.Calls.Registers.{reg_at, with_reg}
 use Rattle.xk_base.specs.UserMemory.{Memory, Timer, size_of, number_at, number_loaded, timer_at}
 use Rattle.rv32_words.specs.declared.insn.Insn.{Insn}
 use Rattle.rv32_words.specs.declared.insn.Insn.TheVariants.{Jal, Jalr, Beq, Bne, Blt, Bge, Bltu, Bgeu, Lb, Lh, Lw, Lbu, Lhu, Sb, Sh, Sw}
+use Rattle.rv32_atomics.specs.Performing.{Core}
 use Rattle.rv32_words.specs.Reading.{insn_at}
 use Rattle.machine_model.specs.Hart.Atomics.{Atomic, LoadReserved, StoreConditional, Amo, atomic_at, execute, execute_at, is_reserved, leaving, operates, perform, result_of, stores_conditionally}
 use Rattle.machine_model.specs.Hart.Instructions.{Executed, Next, Stores, StoresToConsole, StoresToTimer, Traps, target_misaligned, load_misaligned, load_page_fault, store_misaligned, store_page_fault, fetch_page_fault, as_word, address_of, sign_extended_byte, sign_extended_half, writes, stores, jumps, branches, loads, effect, effect_if_any, execute_base, puts, sum_of, following, x}
+use Rattle.xk_kernel.specs.Running.{Unknown, performed_where}
 
 -- The process may store there by these rights, it isn't this console, and the address is aligned.
 abbrev pub StoresAllowed : (Access → ℕ → Bool) → (ℕ → Bool) → Executed → Type 0
@@ -145,3 +147,13 @@ fetched_so mem regs pc word reserved false = tt
 pub stores_lawfully : (mem : Memory) (regs : List ℕ) (pc : ℕ) (reserved : Option ℕ) → StoresLawfully mem (execute_at regs pc reserved mem).executed
 unfolding execute_at
 stores_lawfully mem regs pc reserved = fetched_so mem regs pc (number_at mem.byte pc Word) reserved (mem.may Fetch pc)
+
+-- .. whatever stands at the pc
+where_so : (stands : Unknown) (core : Core) (pc : ℕ) (mem : Memory) (b : Bool)
+    → StoresLawfully mem (if b then perform mem core.regs pc stands.word core.reserved stands.atomic else leaving core.reserved (Traps fetch_page_fault pc)).executed
+where_so stands core pc mem true = performed_so mem core.regs pc stands.word core.reserved stands.atomic
+where_so stands core pc mem false = tt
+
+pub stores_lawfully_where : (stands : Unknown) (core : Core) (pc : ℕ) (mem : Memory)
+    → StoresLawfully (record mem { byte = stands.byte }) (performed_where stands core pc mem).executed
+stores_lawfully_where stands core pc mem = where_so stands core pc (record mem { byte = stands.byte }) (mem.may Fetch pc)

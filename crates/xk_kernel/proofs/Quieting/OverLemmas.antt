@@ -1,12 +1,11 @@
 -- An instruction of a thread in hand over its memory, while that is lent, is the quiet step of every kernel around it, or isn't done.
 use Rattle.xk_ports.specs.declared.store.SwapStore.{Ghosts as SwapStore}
-use Rattle.std.proofs.Common.{◌≡◌, ℕ, ◌+◌, Bool, true, false, Option, refl, sym, ap, subst, ◌∙◌, inl, inr}
+use Rattle.std.proofs.Common.{◌≡◌, ℕ, ◌+◌, true, false, Option, refl, sym, ap, subst, ◌∙◌, inl, inr}
 use Rattle.machine_model.specs.Stepping.Step.{ends_handler, ends_thread}
 use Rattle.rv32_atomics.specs.Performing.{Core, Performs, PerformsOrLeaves, core_left}
 use Rattle.rv32_hart.specs.declared.ran.Ran.{Ran}
 use Rattle.rv32_hart.specs.declared.ran.Ran.TheVariants as ran
 use Rattle.xk_parts.specs.Shown.{thread_of}
-use Rattle.sv32_space.specs.Tie.{Held}
 use Rattle.thread_table.specs.States.{is_ready_state}
 use Rattle.thread_table.specs.declared.thread.Thread.{Thread as TableThread}
 use Rattle.vm_memory.proofs.Using.UserKeepLemmas.{rest_same}

@@ -1,6 +1,6 @@
 -- A thread in hand, and what its quiet steps keep of the kernel.
 use Rattle.xk_ports.specs.declared.store.SwapStore.{Ghosts as SwapStore}
-use Rattle.std.proofs.Common.{◌≡◌, ℕ, ◌%◌, Bool, Option, sym, subst}
+use Rattle.std.proofs.Common.{◌≡◌, ℕ, ◌%◌, Option, sym, subst}
 use Rattle.machine_model.specs.Runs.Matched.{Matched}
 use Rattle.machine_model.specs.State.Machine.{Machine}
 use Rattle.xk_parts.specs.Shown.{thread_of}

@@ -4,7 +4,6 @@ use Rattle.std.proofs.Common.{◌≡◌, ℕ, suc, ◌+◌, ◌<◌, ◌≤◌, 
 use Rattle.std.proofs.lemmas.Bool.{false≢true}
 use Rattle.machine_model.specs.Stepping.Step.{step}
 use Rattle.machine_model.specs.Stepping.Timer.{is_due}
-use Rattle.sv32_space.specs.Tie.{Held}
 use Rattle.thread_table.specs.declared.thread.Thread.{Thread as TableThread}
 use Rattle.vm_memory.proofs.Using.UserKeepLemmas.{rest_same}
 use Rattle.vm_memory.specs.Bytes.{MeansBytes, none_out}

@@ -6,7 +6,7 @@ ghost use Rattle.machine_model.specs.State.Changes.{Served, answering, call_sett
 ghost use Rattle.machine_model.specs.Ending.Ends.{death, is_joining, joiners_answered, thread_ended};
 ghost use Rattle.machine_model.specs.Runs.Matched.{Matched, is_living};
 ghost use Rattle.machine_model.specs.Stepping.Step.{after};
-ghost use Rattle.vm_memory.specs.Memory.{processes};
+ghost use Rattle.vm_memory.specs.Memory.{processes, store_of};
 ghost use Rattle.xk_base.specs.Tables.Circle.{is_pid, thread_ids};
 ghost use Rattle.xk_base.specs.declared.limits.TheConstants.{PROCESS_LIMIT};
 ghost use Rattle.xk_base.specs.declared.records.What.TheVariants.{End};
@@ -38,6 +38,7 @@ impl<W: SwapStore> Kernel<W> {
         ensures usable { IsUsable self.new }
         ensures tells { Tells W.held self.old self.new (settled (death pid (machine_of W.held self.old))) }
         ensures none { PutsNoneOut self.old self.new }
+        ensures store { store_of self.new.mem ≡ store_of self.old.mem }
         ensures keeps { Keeps W.SwapStore self.old self.new }
     {
         let timed = self.has_timer(pid);

@@ -2,6 +2,7 @@
 
 ghost use Rattle.std.specs.Prelude.{◌≡◌};
 ghost use Rattle.machine_model.specs.Stepping.Events.{picked};
+ghost use Rattle.vm_memory.specs.Memory.{store_of};
 ghost use Rattle.vm_memory.specs.Tie.{IsTied};
 ghost use Rattle.xk_kernel.specs.Knowing.{PutsNoneOut};
 ghost use Rattle.xk_kernel.specs.Sound.{IsSound, IsUsable, IsWhole, Keeps};
@@ -35,6 +36,8 @@ impl<W: SwapStore> Kernel<W> {
         ensures usable { IsUsable self.new }
         ensures does { Becomes W.held self.new (event_done e (machine_of W.held self.old)) }
         ensures none { PutsNoneOut self.old self.new }
+        // The store isn't called.
+        ensures store { store_of self.new.mem ≡ store_of self.old.mem }
         ensures tie { IsTied W.held self.new.mem }
         ensures keeps { Keeps W.SwapStore self.old self.new }
     {

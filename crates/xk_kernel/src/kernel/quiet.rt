@@ -49,7 +49,9 @@ impl<W: SwapStore> Kernel<W> {
         ensures counts { IfOk result (λ done. self.new.steps ≡ self.old.steps + done) }
         ensures there { IfOk result (λ done. 0 < done → is_some (actor (machine_of W.held self.old)) ≡ true) }
         ensures idle { OnErr result (is_some (actor (machine_of W.held self.old)) ≡ true) }
+        // Quiet steps leave no record. Where there is none, the records of the step or event before stay.
         ensures last { IfOk result (λ done. 0 < done → last_of self.new ≡ []) }
+        ensures stays { IfOk result (λ done. done ≡ 0 → last_of self.new ≡ last_of self.old) }
         // The steps, where bytes are known.
         ensures runs { KnowsBytes W.SwapStore self.old self.new
             → IfOk result (λ done. RunsQuietly most done (machine_of W.held self.old) (machine_of W.held self.new)) }

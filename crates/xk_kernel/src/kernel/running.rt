@@ -13,7 +13,7 @@ ghost use Rattle.vm_memory.specs.Bytes.{none_out};
 ghost use Rattle.vm_memory.specs.Memory.{has_failed, store_of};
 ghost use Rattle.xk_base.specs.Outside.{Rose};
 ghost use Rattle.xk_kernel.specs.Knowing.{KnowsBytes, PutsNoneOut};
-ghost use Rattle.xk_kernel.specs.Running.{machine_after, timed_view};
+ghost use Rattle.xk_kernel.specs.Running.{RunsSome, machine_after, timed_view};
 ghost use Rattle.xk_kernel.specs.Sound.{IsUsable, IsWhole, Keeps};
 ghost use Rattle.xk_kernel.specs.State.{machine_of};
 
@@ -109,6 +109,10 @@ impl<W: SwapStore> Kernel<W> {
         ensures reserved { let m = machine_of W.held self.old in
             KnowsBytes W.SwapStore self.old self.new → UnlessFailed result
             ((t : ModelThread) → m.threads who ≡ Some t → reserved.new ≡ (performed m who t).reserved) }
+        // Over any bytes it is some instruction of the thread, and all but the bytes of pages is as that leaves it.
+        ensures some { let m = machine_of W.held self.old in
+            UnlessFailed result ((t : ModelThread) → m.threads who ≡ Some t
+            → RunsSome m (machine_of W.held self.new) who t reserved.new result) }
         // Over any bytes the machine stays matched, its thread is as ready as before, and no step is counted.
         ensures matched { Matched (machine_of W.held self.new) }
         ensures ready { ready_at (machine_of W.held self.new) who ≡ ready_at (machine_of W.held self.old) who }

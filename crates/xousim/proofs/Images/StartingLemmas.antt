@@ -27,7 +27,7 @@ use Rattle.xk_kernel.specs.declared.kernel.Kernel.{Kernel}
 use Rattle.xk_kernel.proofs.Starting.StartPageLemmas.{start_pages}
 use Rattle.xk_ports.specs.declared.store.SwapStore.{Ghosts as SwapStore}
 use Rattle.xk_ports.specs.Store.{StoreAsked}
-use Rattle.xk_ports.specs.Told.{Grows, GrowsByPrefix}
+use Rattle.xk_ports.specs.Told.{Grows, GrowsByProperPrefix}
 use Rattle.event_player.specs.Gathering.{Text}
 use Rattle.event_player.specs.Rooms.{IsFull, Room}
 use Rattle.xousim.specs.Outcome.Starts.{Stops, room_of}
@@ -128,12 +128,12 @@ load_stops one other first second store status there same stopped =
 -- what was written of a load that was played
 pub load_told : (clients : ℕ) (out : SinkSide) (store : StoreSide) (line : List ℕ) (status : Status) → line ≡ demo_line clients (totals_of (load_history clients).records)
     → (status ≡ Done) ⊎ (status ≡ WriteFault) → (status ≡ Done → Grows out.written out.written_after line)
-    → (status ≡ WriteFault → GrowsByPrefix out.written out.written_after line) → TellsDemo clients out store status
+    → (status ≡ WriteFault → GrowsByProperPrefix out.written out.written_after line) → TellsDemo clients out store status
 load_told clients out store line status is (inl done) whole front =
     let S : Status → Type 0 = λ s. TellsDemo clients out store s in
     let G : List ℕ → Type 0 = λ l. Grows out.written out.written_after l in
     subst S (sym done) (subst G is (whole done))
 load_told clients out store line status is (inr failed) whole front =
     let S : Status → Type 0 = λ s. TellsDemo clients out store s in
-    let G : List ℕ → Type 0 = λ l. GrowsByPrefix out.written out.written_after l in
+    let G : List ℕ → Type 0 = λ l. GrowsByProperPrefix out.written out.written_after l in
     subst S (sym failed) (subst G is (front failed))

@@ -6,12 +6,12 @@ use Rattle.event_player.specs.declared.ending.Ending.TheVariants.{Played, LimitM
 use Rattle.xousim.specs.declared.status.Status.{Status}
 use Rattle.xousim.specs.declared.status.Status.TheVariants.{Done, Usage, ReadFault, WriteFault, ImageFault, EventFault, StepLimit, SwapFault, NoMemory}
 use Rattle.xousim.specs.Outcome.Plays.{HasCause, Ran, Tells}
-use Rattle.xousim.specs.Outcome.Resumes.{EndsResume, traced}
+use Rattle.xousim.specs.Outcome.Resumes.{EndsResume, resumed_on, traced}
 use Rattle.xousim.specs.Outcome.Sides.{Call, HostRose, IsUnwritten, OutRose, StoreRose}
 use Rattle.event_player.specs.Rooms.{Room}
 use Rattle.xousim.specs.Outcome.Starts.{StopsIn}
 use Rattle.xousim.specs.Outcome.States.{RefusesState, StateFile}
-use Rattle.xousim.specs.Outcome.Verdicts.{GoesOnTo, IsResumeComplete, IsResumeVerdict}
+use Rattle.xousim.specs.Outcome.Verdicts.{GoesOnTo, IsKnownResume, IsResumeComplete, IsResumeVerdict}
 use Rattle.xousim.specs.Words.{Resume}
 
 -- it has the verdict of its files, or there was no memory and nothing was written
@@ -42,32 +42,37 @@ unresumed_complete resume room machine call (ImageFault fault) still stopped unw
 unresumed_complete resume room machine call (EventFault line) still stopped unwritten = absurd stopped
 unresumed_complete resume room machine call (StepLimit limit) still stopped unwritten = absurd stopped
 
-goes_on_to : (resume : Resume) (machine : Machine) (call : Call) (ending : Ending) → StateFile call.host.files resume.state resume.slots machine
-    → Ran (traced resume machine) machine call ending → GoesOnTo call.host.files resume machine ending
-goes_on_to resume machine call ending state ran =
-    record { state = state; events = ran.events; is_file = ran.is_file; ended = ran.ended }
+goes_on_to : (resume : Resume) (machine : Machine) (call : Call) (ending : Ending) → IsKnownResume resume call
+    → StateFile call.host.files resume.state resume.slots machine
+    → Ran (traced resume machine) (resumed_on machine resume.slots) call ending → GoesOnTo call.host.files resume machine ending
+goes_on_to resume machine call ending known state ran = record {
+  state = state;
+  events = ran.events;
+  is_file = ran.is_file;
+  ended = (ran.exact (known machine ran.events state ran.is_file)).ended;
+}
 
 resumed_complete : (resume : Resume) (room : Room) (machine : Machine) (call : Call) (status : Status)
-    → (¬ HostRose call) → (¬ OutRose call) → (¬ StoreRose call.store)
+    → (¬ HostRose call) → (¬ OutRose call) → (¬ StoreRose call.store) → IsKnownResume resume call
     → StateFile call.host.files resume.state resume.slots machine → HasCause (traced resume machine) room machine call status
-    → Tells (traced resume machine) machine call status → HasVerdict resume call status
-resumed_complete resume room machine call Done quiet calm still state cause told = inl (machine, goes_on_to resume machine call Played state told)
-resumed_complete resume room machine call (EventFault line) quiet calm still state cause told =
-    inl (machine, goes_on_to resume machine call (BadLine line) state told)
-resumed_complete resume room machine call (StepLimit limit) quiet calm still state cause told =
-    inl (machine, cause, goes_on_to resume machine call LimitMet state told)
-resumed_complete resume room machine call SwapFault quiet calm still state cause told = absurd (still cause.0)
-resumed_complete resume room machine call WriteFault quiet calm still state cause told = absurd (calm cause)
-resumed_complete resume room machine call ReadFault quiet calm still state cause told = absurd (quiet cause)
-resumed_complete resume room machine call Usage quiet calm still state cause told = absurd told
-resumed_complete resume room machine call NoMemory quiet calm still state cause told = absurd told
-resumed_complete resume room machine call (ImageFault fault) quiet calm still state cause told = absurd told
+    → Tells (traced resume machine) (resumed_on machine resume.slots) call status → HasVerdict resume call status
+resumed_complete resume room machine call Done quiet calm still known state cause told = inl (machine, goes_on_to resume machine call Played known state told)
+resumed_complete resume room machine call (EventFault line) quiet calm still known state cause told =
+    inl (machine, goes_on_to resume machine call (BadLine line) known state told)
+resumed_complete resume room machine call (StepLimit limit) quiet calm still known state cause told =
+    inl (machine, cause, goes_on_to resume machine call LimitMet known state told)
+resumed_complete resume room machine call SwapFault quiet calm still known state cause told = absurd (still cause.0)
+resumed_complete resume room machine call WriteFault quiet calm still known state cause told = absurd (calm cause)
+resumed_complete resume room machine call ReadFault quiet calm still known state cause told = absurd (quiet cause)
+resumed_complete resume room machine call Usage quiet calm still known state cause told = absurd told
+resumed_complete resume room machine call NoMemory quiet calm still known state cause told = absurd told
+resumed_complete resume room machine call (ImageFault fault) quiet calm still known state cause told = absurd told
 
 pub resume_complete : (resume : Resume) (call : Call) → EndsResume resume call
     → (¬ HostRose call) → (¬ OutRose call) → (¬ StoreRose call.store) → IsResumeComplete resume call
-resume_complete resume call (inl unread) quiet calm still trusted = unread_complete resume call call.status quiet unread.refused unread.unwritten
-resume_complete resume call (inr (inl unresumed)) quiet calm still trusted =
+resume_complete resume call (inl unread) quiet calm still known = unread_complete resume call call.status quiet unread.refused unread.unwritten
+resume_complete resume call (inr (inl unresumed)) quiet calm still known =
     unresumed_complete resume _ unresumed.machine call call.status still unresumed.stopped unresumed.unwritten
-resume_complete resume call (inr (inr (inl unpicked))) quiet calm still trusted = absurd (quiet unpicked.cause)
-resume_complete resume call (inr (inr (inr resumed))) quiet calm still trusted =
-    resumed_complete resume _ resumed.machine call call.status quiet calm still resumed.state resumed.cause (resumed.content trusted)
+resume_complete resume call (inr (inr (inl unpicked))) quiet calm still known = absurd (quiet unpicked.cause)
+resume_complete resume call (inr (inr (inr resumed))) quiet calm still known =
+    resumed_complete resume _ resumed.machine call call.status quiet calm still known resumed.state resumed.cause resumed.content

@@ -19,18 +19,19 @@ use Rattle.xk_ports.specs.declared.store.SwapStore.{Ghosts as SwapStore}
 use Rattle.xk_ports.specs.Store.{StoreAsked}
 use Rattle.xk_ports.specs.Told.{Grows}
 use Rattle.xk_ports.specs.declared.host.FileSlot.TheVariants.{First}
-use Rattle.xousim.specs.Finish.{Booted, Continues, EndsBooted}
+use Rattle.xousim.specs.Finish.{Continues, EndsBooted}
 use Rattle.event_player.specs.Gathering.{Text}
-use Rattle.xousim.specs.Outcome.Plays.{HasCause}
+use Rattle.xousim.specs.Outcome.Plays.{HasCause, Tells}
 use Rattle.xousim.specs.Outcome.Resumes.{EndsResume, limit_from, traced}
-use Rattle.xousim.specs.Outcome.Sides.{Call, IsTrusted, Prepares, StoreSide, Told}
+use Rattle.xousim.specs.Outcome.Sides.{Call, Prepares, StoreSide, Told}
+use Rattle.xousim.specs.Outcome.Starts.{Booted}
 use Rattle.event_player.specs.Rooms.{IsFull, Room}
 use Rattle.xousim.specs.Outcome.States.{StateFile, room_from}
 use Rattle.host_io.specs.Reading.{Asked, IsFile, IsTold}
 use Rattle.event_player.specs.Standing.{Begins, room_in, stand}
 use Rattle.xousim.specs.StateFiles.{IsSoundState, Restores}
 use Rattle.xousim.specs.Words.{Resume}
-use Rattle.xousim.proofs.Outcome.TopLemmas.{Before, IsBefore, asks_both, begun_at, cause_earlier, rose_after, tells_earlier}
+use Rattle.xousim.proofs.Outcome.TopLemmas.{Before, IsBefore, asks_both, begun_at, booted_is, cause_earlier, rose_after, tells_earlier}
 use Rattle.event_player.proofs.Playing.StandingLemmas.{near_means, trusted_means}
 
 -- ---- the start
@@ -131,7 +132,7 @@ resumed_earlier resume booted before call side continues first last stays later 
     })))
 resumed_earlier resume booted before call side continues first last stays later asked read (inr picked) =
     let R : Room → Type 0 = λ room. HasCause (traced resume booted.machine) room booted.machine call call.status in
-    let T : ℕ → Type 0 = λ slots. IsTrusted call.store slots in
+    let T : Booted → Type 0 = λ b. Tells (traced resume booted.machine) b (begun_at call.host.files before call) call.status in
     inr (inr (inr (record {
       machine = booted.machine;
       state = continues.state;
@@ -139,8 +140,8 @@ resumed_earlier resume booted before call side continues first last stays later 
       prepared = prepared_before before call side resume.slots None continues.prepared first last stays;
       cause = cause_earlier (traced resume booted.machine) (room_from booted.machine resume.slots) booted.machine before call call.status later
           (subst R continues.room picked.cause);
-      content = λ trusted. tells_earlier (traced resume booted.machine) booted.machine before call call.status
-          (picked.content (subst T (sym continues.slots) trusted));
+      content = subst T (booted_is booted (room_from booted.machine resume.slots) resume.slots continues.room continues.slots)
+          (tells_earlier (traced resume booted.machine) booted before call call.status picked.content);
       state_read = λ done. read;
       events_read = picked.events_read;
     })))

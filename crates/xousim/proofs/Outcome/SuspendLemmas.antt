@@ -1,5 +1,5 @@
 -- The parts of a call of `suspend`, put together.
-use Rattle.std.proofs.Common.{◌≡◌, ◌≤◌, ◌+◌, ◌⊎◌, inl, inr, ℕ, Bool, true, false, List, [], ◌∷◌, length, Option, None, Result, Ok, Err, IfErr, IsErrAnd}
+use Rattle.std.proofs.Common.{◌≡◌, ◌<◌, ◌≤◌, ◌+◌, ◌⊎◌, inl, inr, ℕ, Bool, true, false, List, [], ◌∷◌, length, Option, None, Result, Ok, Err, IfErr, IsErrAnd}
 use Rattle.std.proofs.Common.{refl, sym, ap, ◌∙◌, subst, arith}
 use Rattle.boot_plan.specs.Capacity.{capacity, page_frames}
 use Rattle.boot_plan.specs.declared.plans.BootPlan.{BootPlan}
@@ -19,33 +19,33 @@ use Rattle.xk_kernel.specs.State.{machine_of}
 use Rattle.xk_kernel.specs.declared.kernel.Kernel.{Kernel}
 use Rattle.xk_ports.specs.declared.store.SwapStore.{Ghosts as SwapStore}
 use Rattle.xk_ports.specs.Host.{IsLeftOf}
-use Rattle.xk_ports.specs.Told.{Grows, GrowsByPrefix}
+use Rattle.xk_ports.specs.Told.{Grows, GrowsByProperPrefix}
 use Rattle.xk_ports.specs.declared.host.FileSlot.TheVariants.{First}
 use Rattle.event_player.specs.declared.telling.Telling.TheVariants.{Nothing}
 use Rattle.event_player.specs.declared.ending.Ending.{Ending}
-use Rattle.event_player.specs.declared.ending.Ending.TheVariants.{Played}
+use Rattle.event_player.specs.declared.ending.Ending.TheVariants.{Played, LimitMet, BadLine}
 use Rattle.xousim.specs.declared.status.Status.{Status}
 use Rattle.xousim.specs.declared.status.Status.TheVariants.{Done, Usage, ReadFault, WriteFault, ImageFault, EventFault, StepLimit, SwapFault, NoMemory}
-use Rattle.xousim.specs.Finish.{Booted, EndsSilently, HasSaveCause, SavesState, Starts}
-use Rattle.event_player.specs.Gathering.{Text}
-use Rattle.event_player.specs.History.{History, run_of}
+use Rattle.xousim.specs.Finish.{EndsSilently, HasSaveCause, SavesState, Starts}
+use Rattle.event_player.specs.Gathering.{StaysSilent, Text}
+use Rattle.event_player.specs.History.{History, MayEnd, run_of}
 use Rattle.xousim.specs.Outcome.Images.{plan_in}
 use Rattle.xousim.specs.Outcome.Plays.{HasCause, RanFull}
-use Rattle.xousim.specs.Outcome.Sides.{Call, IsTrusted, StoreSide, Told}
+use Rattle.xousim.specs.Outcome.Sides.{Call, SinkSide, StoreSide, Told}
 use Rattle.event_player.specs.Rooms.{ComesFull, Room}
-use Rattle.xousim.specs.Outcome.Starts.{room_of}
+use Rattle.xousim.specs.Outcome.Starts.{Booted, KnowsPages, room_of}
 use Rattle.xousim.specs.Outcome.Suspends.{EndsSuspend, RanUnsaved, Saves, saved_at, saved_of, silent}
-use Rattle.event_player.specs.Playing.{LeavesNear, run_from}
+use Rattle.event_player.specs.Playing.{PlaysOut, Run, run_from}
 use Rattle.machine_history.specs.Reserved.{IsReservedByThread}
 use Rattle.host_io.specs.Reading.{Asked, IsFile, IsTold}
 use Rattle.event_player.specs.Standing.{Stand, room_in}
-use Rattle.event_player.specs.Telling.{told}
+use Rattle.event_player.specs.Telling.{is_silent, told}
 use Rattle.xousim.specs.Words.{Play, Suspend}
-use Rattle.event_player.specs.Writing.{Wrote, WroteSome}
 use Rattle.xousim.proofs.ReserverLemmas.{history_reserver, unreserved_known}
-use Rattle.xousim.proofs.Outcome.TopLemmas.{Before, IsBefore, asks_both, begun_at, cause_earlier, full_on, prepared_earlier, rose_after}
+use Rattle.xousim.proofs.Outcome.TopLemmas.{Before, IsBefore, asks_both, begun_at, booted_is, cause_earlier, lines_earlier, prepared_earlier, rose_after}
+use Rattle.xousim.proofs.Outcome.TrustLemmas.{full_on}
 use Rattle.host_io.proofs.ReadingLemmas.{told_file}
-use Rattle.event_player.proofs.Playing.GatheringLemmas.{first_none}
+use Rattle.event_player.proofs.Playing.GatheringLemmas.{second_none}
 
 -- ---- the start
 
@@ -86,22 +86,9 @@ nothing_told : (records : List Rec) → told Nothing records ≡ []
 nothing_told [] = refl
 nothing_told (rec ∷ records) = nothing_told records
 
--- so the sink wasn't touched
-pub untouched : (before after : Option (List ℕ)) (h : History) (ending : Ending) → Wrote Nothing before after h ending → after ≡ before
-untouched before after h ending wrote = wrote.still (nothing_told h.records)
-
-pub unsaved : (suspend : Suspend) (machine : Machine) (call : Call) (events : List ℕ) (ending : Ending) → IsFile call.host.files suspend.events events
-    → Wrote Nothing call.out.written call.out.written_after (run_of suspend.limit machine events) ending → RanUnsaved suspend machine call ending
-unsaved suspend machine call events ending is_file wrote = record {
-  events = events;
-  is_file = is_file;
-  ended = wrote.ended;
-  unwritten = untouched call.out.written call.out.written_after (run_of suspend.limit machine events) ending wrote;
-}
-
--- .. also where the store failed
-pub steps_untouched : (before after : Option (List ℕ)) (limit : ℕ) (h : ℕ → History) → WroteSome Nothing before after limit h → after ≡ before
-steps_untouched before after limit h some = some.still (nothing_told (h some.done).records)
+-- a sink on which nothing stands of a run wasn't touched
+pub untouched : (run : Run) (now : Stand) → run.tells ≡ Nothing → run.begun.held ≡ [] → StaysSilent run.tells run.begun now.text → now.text.out ≡ run.begun.out
+untouched run now nothing none stays = ap (λ (t : Text). t.out) (stays (ap is_silent nothing) none)
 
 -- ---- the last state
 
@@ -114,18 +101,18 @@ last_reserver limit events old start last is matched none there =
 
 -- where a page is out at the end of the events, some state of the run had more pages than there are frames for
 pub full_where_out : (play : Play) (room : Room) (start : Machine) (call : Call) (begun : Text) (left : Option (List ℕ)) (now : Stand)
-    → IsLeftOf call.host.files play.events left → now.room ≡ room → LeavesNear (run_from play.tells play.limit start begun) left now
+    → IsLeftOf call.host.files play.events left → now.room ≡ room → PlaysOut (run_from play.tells play.limit start begun) left now Played
     → now.near ≡ false → RanFull play room start call
-full_where_out play room start call begun left now of same leaves out = record {
-  events = leaves.bytes;
-  is_file = told_file call.host.files play.events left leaves.bytes of leaves.told;
-  full = go leaves.near;
+full_where_out play room start call begun left now of same plays out = record {
+  events = plays.bytes;
+  is_file = told_file call.host.files play.events left plays.bytes of plays.file;
+  full = go (plays.near refl);
 }
   where
-    go : (now.near ≡ true) ⊎ ComesFull now.room start (moments_of (input_of leaves.bytes).events play.limit start)
-        → ComesFull room start (moments_of (input_of leaves.bytes).events play.limit start)
+    go : (now.near ≡ true) ⊎ ComesFull now.room start (moments_of (input_of plays.bytes).events play.limit start)
+        → ComesFull room start (moments_of (input_of plays.bytes).events play.limit start)
     go (inl near) = absurd (cc)
-    go (inr full) = full_on room now.room start (moments_of (input_of leaves.bytes).events play.limit start) same full
+    go (inr full) = full_on room now.room start (moments_of (input_of plays.bytes).events play.limit start) same full
 
 pub saved_cause : (play : Play) (room : Room) (machine : Machine) (call : Call) (near : Bool) (mid : Option (List ℕ)) (faults : ℕ) (store : StoreSide)
     (status : Status) → call.out.faults ≤ faults → call.store.faults ≤ store.faults → store.faults_after ≡ call.store.faults_after
@@ -149,70 +136,91 @@ saved_cause play room machine call near mid faults store (ImageFault fault) late
 saved_cause play room machine call near mid faults store (EventFault line) later before same full cause = absurd cause
 saved_cause play room machine call near mid faults store (StepLimit limit) later before same full cause = absurd cause
 
-pub saved_tells : (suspend : Suspend) (machine last : Machine) (call : Call) (mid : Option (List ℕ)) (faults : ℕ) (events : List ℕ) (status : Status)
-    → IsFile call.host.files suspend.events events → Wrote Nothing call.out.written mid (run_of suspend.limit machine events) Played
-    → last ≡ (run_of suspend.limit machine events).machine
-    → SavesState last (record {
+-- the history of the events was played, to this machine, and this was saved
+pub record SavedFrom (suspend : Suspend) (start last : Machine) (events : List ℕ) (out : SinkSide) (status : Status) : Type 0 where
+  pub ended : (run_of suspend.limit start events).ending ≡ Played
+  pub there : last ≡ (run_of suspend.limit start events).machine
+  pub saved : SavesState last out status
+
+-- .. where what the pages hold is known
+abbrev pub CameTo : Suspend → Booted → Machine → Call → List ℕ → SinkSide → Status → Type 0
+CameTo suspend booted last call events out status =
+    KnowsPages call.store booted suspend.limit (input_of events).events → SavedFrom suspend booted.machine last events out status
+
+pub saved_tells : (suspend : Suspend) (booted : Booted) (last : Machine) (call : Call) (near : Bool) (mid : Option (List ℕ)) (faults : ℕ) (store : StoreSide)
+    (events : List ℕ) (status : Status) → IsFile call.host.files suspend.events events → MayEnd (input_of events) Played → mid ≡ call.out.written
+    → CameTo suspend booted last call events (record {
       written = mid;
       written_after = call.out.written_after;
       faults = faults;
       faults_after = call.out.faults_after;
-    }) status → Saves suspend machine call status
-saved_tells suspend machine last call mid faults events Done is_file wrote there saved =
-    let h : History = run_of suspend.limit machine events in
-    let G : Option (List ℕ) → Type 0 = λ out. Grows out call.out.written_after (saved_bytes last) in
-    let M : Machine → Type 0 = λ m. Grows call.out.written call.out.written_after (saved_bytes m) in
-    record {
-      events = events;
-      is_file = is_file;
-      ended = wrote.ended;
-      spelled = subst IsSpellable there saved.0;
-      written = subst M there (subst G (untouched call.out.written mid h Played wrote) saved.1);
-    }
-saved_tells suspend machine last call mid faults events WriteFault is_file wrote there saved =
-    let h : History = run_of suspend.limit machine events in
-    let G : Option (List ℕ) → Type 0 = λ out. GrowsByPrefix out call.out.written_after (saved_bytes last) in
-    let B : List ℕ → Type 0 = λ bytes. GrowsByPrefix call.out.written call.out.written_after bytes in
-    let whole : saved_bytes last ≡ saved_of h = ap saved_bytes there ∙ ap (λ (e : Ending). saved_at h.machine e) (sym wrote.ended) in
-    record {
-      events = events;
-      is_file = is_file;
-      written = subst B whole (subst G (untouched call.out.written mid h Played wrote) saved);
-    }
-saved_tells suspend machine last call mid faults events SwapFault is_file wrote there saved =
-    saved ∙ untouched call.out.written mid (run_of suspend.limit machine events) Played wrote
-saved_tells suspend machine last call mid faults events Usage is_file wrote there saved = absurd saved
-saved_tells suspend machine last call mid faults events ReadFault is_file wrote there saved = absurd saved
-saved_tells suspend machine last call mid faults events NoMemory is_file wrote there saved = absurd saved
-saved_tells suspend machine last call mid faults events (ImageFault fault) is_file wrote there saved = absurd saved
-saved_tells suspend machine last call mid faults events (EventFault line) is_file wrote there saved = absurd saved
-saved_tells suspend machine last call mid faults events (StepLimit limit) is_file wrote there saved = absurd saved
+    }) status
+    → HasSaveCause near (record {
+      written = mid;
+      written_after = call.out.written_after;
+      faults = faults;
+      faults_after = call.out.faults_after;
+    }) store status → Saves suspend booted call status
+saved_tells suspend booted last call near mid faults store events Done is_file may same came cause = record {
+  events = events;
+  is_file = is_file;
+  may = may;
+  exact = λ known.
+      let all = came known in
+      let G : Option (List ℕ) → Type 0 = λ out. Grows out call.out.written_after (saved_bytes last) in
+      let M : Machine → Type 0 = λ m. Grows call.out.written call.out.written_after (saved_bytes m) in
+      record { ended = all.ended; spelled = subst IsSpellable all.there all.saved.0; written = subst M all.there (subst G same all.saved.1) };
+}
+saved_tells suspend booted last call near mid faults store events WriteFault is_file may same came cause = record {
+  events = events;
+  is_file = is_file;
+  exact = λ known.
+      let all = came known in
+      let h : History = run_of suspend.limit booted.machine events in
+      let G : Option (List ℕ) → Type 0 = λ out. GrowsByProperPrefix out call.out.written_after (saved_bytes last) in
+      let B : List ℕ → Type 0 = λ bytes. GrowsByProperPrefix call.out.written call.out.written_after bytes in
+      let whole : saved_bytes last ≡ saved_of h = ap saved_bytes all.there ∙ ap (λ (e : Ending). saved_at h.machine e) (sym all.ended) in
+      subst B whole (subst G same all.saved);
+}
+saved_tells suspend booted last call near mid faults store events SwapFault is_file may same came cause = cause.2 ∙ same
+saved_tells suspend booted last call near mid faults store events Usage is_file may same came cause = absurd cause
+saved_tells suspend booted last call near mid faults store events ReadFault is_file may same came cause = absurd cause
+saved_tells suspend booted last call near mid faults store events NoMemory is_file may same came cause = absurd cause
+saved_tells suspend booted last call near mid faults store events (ImageFault fault) is_file may same came cause = absurd cause
+saved_tells suspend booted last call near mid faults store events (EventFault line) is_file may same came cause = absurd cause
+saved_tells suspend booted last call near mid faults store events (StepLimit limit) is_file may same came cause = absurd cause
 
--- where a write failed though nothing was told, nothing was written
-pub part_of_saved : (before after : Option (List ℕ)) (h : History) → GrowsByPrefix before after (told Nothing h.records)
-    → GrowsByPrefix before after (saved_of h)
+-- nothing is told as records come: no write of it can have failed
+pub part_of_saved : (before after : Option (List ℕ)) (h : History) → GrowsByProperPrefix before after (told Nothing h.records)
+    → GrowsByProperPrefix before after (saved_of h)
 part_of_saved before after h part =
-    let none : part.0 ≡ [] = first_none part.0 part.1 (sym part.2 ∙ nothing_told h.records) in
-    let G : List ℕ → Type 0 = λ bytes. Grows before after bytes in
-    ([], saved_of h, refl, subst G none part.3)
+    let none : part.1 ≡ [] = second_none part.0 part.1 (sym part.3 ∙ nothing_told h.records) in
+    let some : 0 < 0 = subst (λ (l : List ℕ). 0 < length l) none part.2 in
+    absurd (omega (arith, some))
 
 -- ---- a call that began earlier
 
-saves_earlier : (suspend : Suspend) (machine : Machine) (before : Before) (call : Call) (status : Status) → Saves suspend machine call status
-    → Saves suspend machine (begun_at call.host.files before call) status
-saves_earlier suspend machine before call Done saved =
-    record { events = saved.events; is_file = saved.is_file; ended = saved.ended; spelled = saved.spelled; written = saved.written }
-saves_earlier suspend machine before call (EventFault line) saved =
-    record { events = saved.events; is_file = saved.is_file; ended = saved.ended; unwritten = saved.unwritten }
-saves_earlier suspend machine before call (StepLimit limit) saved =
-    record { events = saved.events; is_file = saved.is_file; ended = saved.ended; unwritten = saved.unwritten }
-saves_earlier suspend machine before call SwapFault saved = saved
-saves_earlier suspend machine before call WriteFault saved = record { events = saved.events; is_file = saved.is_file; written = saved.written }
-saves_earlier suspend machine before call ReadFault saved =
-    (record { bytes = saved.0.bytes; read = saved.0.read; ended = saved.0.ended; written = saved.0.written }, saved.1)
-saves_earlier suspend machine before call Usage saved = absurd saved
-saves_earlier suspend machine before call NoMemory saved = absurd saved
-saves_earlier suspend machine before call (ImageFault fault) saved = absurd saved
+unsaved_earlier : (suspend : Suspend) (booted : Booted) (before : Before) (call : Call) (ending : Ending) → RanUnsaved suspend booted call ending
+    → RanUnsaved suspend booted (begun_at call.host.files before call) ending
+unsaved_earlier suspend booted before call ending ran =
+    record { events = ran.events; is_file = ran.is_file; may = ran.may; exact = λ known. ran.exact known; unwritten = ran.unwritten }
+
+saves_earlier : (suspend : Suspend) (booted : Booted) (before : Before) (call : Call) (status : Status) → Saves suspend booted call status
+    → Saves suspend booted (begun_at call.host.files before call) status
+saves_earlier suspend booted before call Done saved = record {
+  events = saved.events;
+  is_file = saved.is_file;
+  may = saved.may;
+  exact = λ known. let all = saved.exact known in record { ended = all.ended; spelled = all.spelled; written = all.written };
+}
+saves_earlier suspend booted before call (EventFault line) saved = unsaved_earlier suspend booted before call (BadLine line) saved
+saves_earlier suspend booted before call (StepLimit limit) saved = unsaved_earlier suspend booted before call LimitMet saved
+saves_earlier suspend booted before call SwapFault saved = saved
+saves_earlier suspend booted before call WriteFault saved = record { events = saved.events; is_file = saved.is_file; exact = λ known. saved.exact known }
+saves_earlier suspend booted before call ReadFault saved = (lines_earlier (silent suspend) booted before call saved.0, saved.1)
+saves_earlier suspend booted before call Usage saved = absurd saved
+saves_earlier suspend booted before call NoMemory saved = absurd saved
+saves_earlier suspend booted before call (ImageFault fault) saved = absurd saved
 
 -- ---- whole calls
 
@@ -233,7 +241,7 @@ saved_earlier suspend booted before call side starts first last stays later aske
     })))
 saved_earlier suspend booted before call side starts first last stays later asked read (inr picked) =
     let R : Room → Type 0 = λ room. HasCause (silent suspend) room booted.machine call call.status in
-    let T : ℕ → Type 0 = λ slots. IsTrusted call.store slots in
+    let T : Booted → Type 0 = λ b. Saves suspend b (begun_at call.host.files before call) call.status in
     inr (inr (inr (record {
       asked = asks_both (silent suspend) before call true asked picked.asked;
       machine = booted.machine;
@@ -241,8 +249,8 @@ saved_earlier suspend booted before call side starts first last stays later aske
       prepared = prepared_earlier (silent suspend) booted before call side starts first last stays;
       cause = cause_earlier (silent suspend) (room_of (plan_in starts.image)) booted.machine before call call.status later
           (subst R starts.room picked.cause);
-      content = λ trusted.
-          saves_earlier suspend booted.machine before call call.status (picked.content (subst T (sym starts.slots) trusted));
+      content = subst T (booted_is booted (room_of (plan_in starts.image)) (plan_in starts.image).slots starts.room starts.slots)
+          (saves_earlier suspend booted before call call.status picked.content);
       image_read = λ done. read;
       events_read = picked.events_read;
     })))

@@ -4,25 +4,27 @@ use Rattle.std.specs.Option.{option_map}
 use Rattle.xk_base.specs.Outside.{Rose}
 use Rattle.xk_ports.specs.Host.{FileAsked}
 use Rattle.xk_ports.specs.Store.{StoreAsked}
-use Rattle.xk_ports.specs.Told.{Grows, GrowsByPrefix}
+use Rattle.xk_ports.specs.Told.{Grows, GrowsByProperPrefix}
 use Rattle.xk_ports.specs.declared.host.FileSlot.TheVariants.{First, Second}
 use Rattle.xk_ports.proofs.ToldLemmas.{Grows-append}
-use Rattle.machine_model.specs.Runs.Moments.{Moment}
+use Rattle.event_text.specs.EventFile.{input_of}
 use Rattle.machine_model.specs.State.Machine.{Machine}
 use Rattle.xousim.specs.declared.commands.command.CommandWords.{CommandWords}
 use Rattle.event_player.specs.declared.telling.Telling.{Telling}
 use Rattle.event_player.specs.declared.ending.Ending.{Ending}
+use Rattle.event_player.specs.declared.ending.Ending.TheVariants.{Played, LimitMet, BadLine}
 use Rattle.xousim.specs.declared.status.Status.{Status}
 use Rattle.xousim.specs.declared.status.Status.TheVariants.{Done, Usage, ReadFault, WriteFault, ImageFault, EventFault, StepLimit, SwapFault, NoMemory}
-use Rattle.xousim.specs.Finish.{Booted, EndsBooted, Finishes, Starts}
-use Rattle.event_player.specs.History.{History, run_of}
+use Rattle.xousim.specs.Finish.{EndsBooted, Finishes, Starts}
+use Rattle.event_player.specs.History.{History, MayEnd, run_of}
 use Rattle.xousim.specs.Outcome.Ends.{Ends}
-use Rattle.xousim.specs.Outcome.Plays.{AsksBoth, EndsPlay, HasCause, Tells}
-use Rattle.xousim.specs.Outcome.Sides.{Call, IsTrusted, Prepares, StoreSide, Told}
-use Rattle.event_player.specs.Rooms.{ComesFull, Room}
-use Rattle.xousim.specs.Outcome.Starts.{room_of}
+use Rattle.xousim.specs.Outcome.Plays.{AsksBoth, EndsPlay, HasCause, Ran, RanWholeLines, Tells}
+use Rattle.xousim.specs.Outcome.Sides.{Call, Prepares, StoreSide, Told}
+use Rattle.event_player.specs.Rooms.{Room}
+use Rattle.xousim.specs.Outcome.Starts.{Booted, KnowsPages, room_of}
 use Rattle.xousim.specs.Outcome.Images.{plan_in}
 use Rattle.host_io.specs.Reading.{Asked, IsFile, IsTold}
+use Rattle.host_io.proofs.ToldLemmas.{front_later, front_longer}
 use Rattle.event_player.specs.Telling.{closing, output, told}
 use Rattle.xousim.specs.Words.{Command, Play, command_in}
 use Rattle.event_player.specs.Writing.{Wrote}
@@ -44,22 +46,15 @@ grows_whole tells before mid after h ending m is there first last =
     subst P (same_closing tells h ending m is there) (Grows-append before mid after (told tells h.records) (closing tells m ending) first last)
 
 pub front_whole : (tells : Telling) (before mid after : Option (List ℕ)) (h : History) (ending : Ending) (m : Machine) → h.ending ≡ ending → m ≡ h.machine
-    → Grows before mid (told tells h.records) → GrowsByPrefix mid after (closing tells m ending) → GrowsByPrefix before after (output tells h)
-front_whole tells before mid after h ending m is there first last = (
-  told tells h.records ++ last.0,
-  last.1,
-  ap (λ (text : List ℕ). told tells h.records ++ text) (sym (same_closing tells h ending m is there) ∙ last.2) ∙ sym (append_assoc (told tells h.records) last.0 last.1),
-  Grows-append before mid after (told tells h.records) last.0 first last.3,
-)
+    → Grows before mid (told tells h.records) → GrowsByProperPrefix mid after (closing tells m ending) → GrowsByProperPrefix before after (output tells h)
+front_whole tells before mid after h ending m is there first last =
+    let P : List ℕ → Type 0 = λ text. GrowsByProperPrefix before after (told tells h.records ++ text) in
+    subst P (same_closing tells h ending m is there) (front_later before mid after (told tells h.records) (closing tells m ending) first last)
 
 -- a part of what is told as the records come is a part of all that is told
-pub part_of_whole : (tells : Telling) (before after : Option (List ℕ)) (h : History) → GrowsByPrefix before after (told tells h.records) → GrowsByPrefix before after (output tells h)
-part_of_whole tells before after h front = (
-  front.0,
-  front.1 ++ closing tells h.machine h.ending,
-  ap (λ (text : List ℕ). text ++ closing tells h.machine h.ending) front.2 ∙ append_assoc front.0 front.1 (closing tells h.machine h.ending),
-  front.3,
-)
+pub part_of_whole : (tells : Telling) (before after : Option (List ℕ)) (h : History) → GrowsByProperPrefix before after (told tells h.records)
+    → GrowsByProperPrefix before after (output tells h)
+part_of_whole tells before after h front = front_longer before after (told tells h.records) (closing tells h.machine h.ending) front
 
 -- ---- the event file
 
@@ -77,28 +72,49 @@ finished_cause play room machine last call mid faults ending ReadFault later fin
 finished_cause play room machine last call mid faults ending NoMemory later finished = absurd finished
 finished_cause play room machine last call mid faults ending (ImageFault fault) later finished = absurd finished
 
-pub finished_tells : (play : Play) (machine last : Machine) (call : Call) (mid : Option (List ℕ)) (faults : ℕ) (events : List ℕ) (ending : Ending) (status : Status)
-    → IsFile call.host.files play.events events → Wrote play.tells call.out.written mid (run_of play.limit machine events) ending
-    → last ≡ (run_of play.limit machine events).machine
-    → Finishes play last ending (record { written = mid; written_after = call.out.written_after; faults = faults; faults_after = call.out.faults_after }) status
-    → Tells play machine call status
-finished_tells play machine last call mid faults events ending Done is_file wrote there finished =
-    record { events = events; is_file = is_file; ended = wrote.ended ∙ finished.0; written = grows_whole play.tells call.out.written mid call.out.written_after (run_of play.limit machine events) ending last wrote.ended there wrote.written finished.1 }
-finished_tells play machine last call mid faults events ending (EventFault line) is_file wrote there finished =
-    record { events = events; is_file = is_file; ended = wrote.ended ∙ finished.0; written = grows_whole play.tells call.out.written mid call.out.written_after (run_of play.limit machine events) ending last wrote.ended there wrote.written finished.1 }
-finished_tells play machine last call mid faults events ending (StepLimit limit) is_file wrote there finished =
-    record { events = events; is_file = is_file; ended = wrote.ended ∙ finished.1; written = grows_whole play.tells call.out.written mid call.out.written_after (run_of play.limit machine events) ending last wrote.ended there wrote.written finished.2 }
-finished_tells play machine last call mid faults events ending WriteFault is_file wrote there finished =
-    record { events = events; is_file = is_file; written = front_whole play.tells call.out.written mid call.out.written_after (run_of play.limit machine events) ending last wrote.ended there wrote.written finished.1 }
-finished_tells play machine last call mid faults events ending Usage is_file wrote there finished = absurd finished
-finished_tells play machine last call mid faults events ending SwapFault is_file wrote there finished = absurd finished
-finished_tells play machine last call mid faults events ending ReadFault is_file wrote there finished = absurd finished
-finished_tells play machine last call mid faults events ending NoMemory is_file wrote there finished = absurd finished
-finished_tells play machine last call mid faults events ending (ImageFault fault) is_file wrote there finished = absurd finished
+-- what the history is, where what the pages hold is known, and what was written of it as its records came
+abbrev pub Came : Play → Booted → Machine → Call → Option (List ℕ) → List ℕ → Ending → Type 0
+Came play booted last call mid events ending =
+    KnowsPages call.store booted play.limit (input_of events).events
+    → Wrote play.tells call.out.written mid (run_of play.limit booted.machine events) ending × (last ≡ (run_of play.limit booted.machine events).machine)
 
--- a run comes full in the room that it began in
-pub full_on : (one other : Room) (start : Machine) (moments : List Moment) → other ≡ one → ComesFull other start moments → ComesFull one start moments
-full_on one other start moments same full = let C : Room → Type 0 = λ room. ComesFull room start moments in subst C same full
+ran_out : (play : Play) (booted : Booted) (last : Machine) (call : Call) (mid : Option (List ℕ)) (events : List ℕ) (ending is : Ending)
+    → IsFile call.host.files play.events events → MayEnd (input_of events) ending → Came play booted last call mid events ending → ending ≡ is
+    → Grows mid call.out.written_after (closing play.tells last ending) → Ran play booted call is
+ran_out play booted last call mid events ending is is_file may came same written = record {
+  events = events;
+  is_file = is_file;
+  may = subst (MayEnd (input_of events)) same may;
+  exact = λ known.
+      let all = came known in
+      record {
+        ended = all.0.ended ∙ same;
+        written = grows_whole play.tells call.out.written mid call.out.written_after (run_of play.limit booted.machine events) ending last all.0.ended all.1 all.0.written written;
+      };
+}
+
+pub finished_tells : (play : Play) (booted : Booted) (last : Machine) (call : Call) (mid : Option (List ℕ)) (faults : ℕ) (events : List ℕ) (ending : Ending) (status : Status)
+    → IsFile call.host.files play.events events → MayEnd (input_of events) ending → Came play booted last call mid events ending
+    → Finishes play last ending (record { written = mid; written_after = call.out.written_after; faults = faults; faults_after = call.out.faults_after }) status
+    → Tells play booted call status
+finished_tells play booted last call mid faults events ending Done is_file may came finished =
+    ran_out play booted last call mid events ending Played is_file may came finished.0 finished.1
+finished_tells play booted last call mid faults events ending (EventFault line) is_file may came finished =
+    ran_out play booted last call mid events ending (BadLine line) is_file may came finished.0 finished.1
+finished_tells play booted last call mid faults events ending (StepLimit limit) is_file may came finished =
+    ran_out play booted last call mid events ending LimitMet is_file may came finished.1 finished.2
+finished_tells play booted last call mid faults events ending WriteFault is_file may came finished = record {
+  events = events;
+  is_file = is_file;
+  exact = λ known.
+      let all = came known in
+      front_whole play.tells call.out.written mid call.out.written_after (run_of play.limit booted.machine events) ending last all.0.ended all.1 all.0.written finished.1;
+}
+finished_tells play booted last call mid faults events ending Usage is_file may came finished = absurd finished
+finished_tells play booted last call mid faults events ending SwapFault is_file may came finished = absurd finished
+finished_tells play booted last call mid faults events ending ReadFault is_file may came finished = absurd finished
+finished_tells play booted last call mid faults events ending NoMemory is_file may came finished = absurd finished
+finished_tells play booted last call mid faults events ending (ImageFault fault) is_file may came finished = absurd finished
 
 -- ---- a call that began earlier
 
@@ -136,18 +152,40 @@ cause_earlier play room machine before call Usage later cause = absurd cause
 cause_earlier play room machine before call NoMemory later cause = absurd cause
 cause_earlier play room machine before call (ImageFault fault) later cause = absurd cause
 
-pub tells_earlier : (play : Play) (machine : Machine) (before : Before) (call : Call) (status : Status) → Tells play machine call status
-    → Tells play machine (begun_at call.host.files before call) status
-tells_earlier play machine before call Done told = record { events = told.events; is_file = told.is_file; ended = told.ended; written = told.written }
-tells_earlier play machine before call (EventFault line) told = record { events = told.events; is_file = told.is_file; ended = told.ended; written = told.written }
-tells_earlier play machine before call (StepLimit limit) told = record { events = told.events; is_file = told.is_file; ended = told.ended; written = told.written }
-tells_earlier play machine before call SwapFault told =
-    record { events = told.events; is_file = told.is_file; done = told.done; within = told.within; met = told.met; written = told.written }
-tells_earlier play machine before call WriteFault told = record { events = told.events; is_file = told.is_file; written = told.written }
-tells_earlier play machine before call ReadFault told = record { bytes = told.bytes; read = told.read; ended = told.ended; written = told.written }
-tells_earlier play machine before call Usage told = absurd told
-tells_earlier play machine before call NoMemory told = absurd told
-tells_earlier play machine before call (ImageFault fault) told = absurd told
+ran_earlier : (play : Play) (booted : Booted) (before : Before) (call : Call) (ending : Ending) → Ran play booted call ending
+    → Ran play booted (begun_at call.host.files before call) ending
+ran_earlier play booted before call ending ran = record {
+  events = ran.events;
+  is_file = ran.is_file;
+  may = ran.may;
+  exact = λ known. let all = ran.exact known in record { ended = all.ended; written = all.written };
+}
+
+pub lines_earlier : (play : Play) (booted : Booted) (before : Before) (call : Call) → RanWholeLines play booted call
+    → RanWholeLines play booted (begun_at call.host.files before call)
+lines_earlier play booted before call ran =
+    record { bytes = ran.bytes; read = ran.read; may = ran.may; exact = λ known. ran.exact known; silent = λ silent. ran.silent silent }
+
+pub tells_earlier : (play : Play) (booted : Booted) (before : Before) (call : Call) (status : Status) → Tells play booted call status
+    → Tells play booted (begun_at call.host.files before call) status
+tells_earlier play booted before call Done told = ran_earlier play booted before call Played told
+tells_earlier play booted before call (EventFault line) told = ran_earlier play booted before call (BadLine line) told
+tells_earlier play booted before call (StepLimit limit) told = ran_earlier play booted before call LimitMet told
+tells_earlier play booted before call SwapFault told =
+    record { events = told.events; is_file = told.is_file; exact = λ trusted. let all = told.exact trusted in record { some = all.some; soon = all.soon }; silent = λ silent. told.silent silent }
+tells_earlier play booted before call WriteFault told = record { events = told.events; is_file = told.is_file; exact = λ known. told.exact known }
+tells_earlier play booted before call ReadFault told = lines_earlier play booted before call told
+tells_earlier play booted before call Usage told = absurd told
+tells_earlier play booted before call NoMemory told = absurd told
+tells_earlier play booted before call (ImageFault fault) told = absurd told
+
+abbrev pub booted_as : Machine → Room → ℕ → Booted
+booted_as machine room slots = record { machine = machine; room = room; slots = slots }
+
+-- what was booted, by its room and its slots
+pub booted_is : (booted : Booted) (room : Room) (slots : ℕ) → booted.room ≡ room → booted.slots ≡ slots → booted ≡ booted_as booted.machine room slots
+booted_is booted room slots rooms same =
+    ap (λ (r : Room). booted_as booted.machine r booted.slots) rooms ∙ ap (λ (s : ℕ). booted_as booted.machine room s) same
 
 -- both files were asked for
 pub asks_both : (play : Play) (before : Before) (call : Call) (picked : Bool)
@@ -184,14 +222,15 @@ ends_earlier play booted before call side starts first last stays later asked re
     })))
 ends_earlier play booted before call side starts first last stays later asked read (inr picked) =
     let R : Room → Type 0 = λ room. HasCause play room booted.machine call call.status in
-    let T : ℕ → Type 0 = λ slots. IsTrusted call.store slots in
+    let T : Booted → Type 0 = λ b. Tells play b (begun_at call.host.files before call) call.status in
     inr (inr (inr (record {
       asked = asks_both play before call true asked picked.asked;
       machine = booted.machine;
       image = starts.image;
       prepared = prepared_earlier play booted before call side starts first last stays;
       cause = cause_earlier play (room_of (plan_in starts.image)) booted.machine before call call.status later (subst R starts.room picked.cause);
-      content = λ trusted. tells_earlier play booted.machine before call call.status (picked.content (subst T (sym starts.slots) trusted));
+      content = subst T (booted_is booted (room_of (plan_in starts.image)) (plan_in starts.image).slots starts.room starts.slots)
+          (tells_earlier play booted before call call.status picked.content);
       image_read = λ done. read;
       events_read = picked.events_read;
     })))

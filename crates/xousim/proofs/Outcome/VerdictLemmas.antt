@@ -24,9 +24,9 @@ use Rattle.xousim.specs.Outcome.Plays.{EndsPlay, HasCause, Ran, Tells}
 use Rattle.event_player.specs.History.{run_of}
 use Rattle.xousim.specs.Outcome.Sides.{Call, HostRose, IsUnwritten, OutRose, StoreRose}
 use Rattle.event_player.specs.Rooms.{Room}
-use Rattle.xousim.specs.Outcome.Starts.{Stops}
+use Rattle.xousim.specs.Outcome.Starts.{Stops, booted_of}
 use Rattle.xousim.specs.Outcome.Suspends.{EndsSuspend, Saves, silent}
-use Rattle.xousim.specs.Outcome.Verdicts.{IsCheckComplete, IsCheckVerdict, IsCommandComplete, IsComplete, IsConvertComplete, IsConvertVerdict, IsPlayComplete, IsSuspendComplete, IsVerdict, RunsTo}
+use Rattle.xousim.specs.Outcome.Verdicts.{IsCheckComplete, IsCheckVerdict, IsCommandComplete, IsComplete, IsConvertComplete, IsConvertVerdict, IsKnownPlay, IsPlayComplete, IsSuspendComplete, IsVerdict, RunsTo}
 use Rattle.boot_plan.specs.declared.plans.BootPlan.{BootPlan}
 use Rattle.demo_load.specs.Events.{load_machine, load_plan}
 use Rattle.host_io.specs.Reading.{IsFile}
@@ -135,10 +135,15 @@ refused_complete play call (EventFault line) quiet refused unwritten = absurd re
 refused_complete play call (StepLimit limit) quiet refused unwritten = absurd refused
 refused_complete play call WriteFault quiet refused unwritten = absurd refused
 
-runs_to : (play : Play) (machine : Machine) (call : Call) (ending : Ending)
-    → Image call.host.files play.image play.slots machine → Ran play machine call ending → RunsTo call.host.files play ending
-runs_to play machine call ending image ran =
-    record { machine = machine; image = image; events = ran.events; is_file = ran.is_file; ended = ran.ended }
+runs_to : (play : Play) (machine : Machine) (call : Call) (ending : Ending) → IsKnownPlay play call
+    → (image : Image call.host.files play.image play.slots machine) → Ran play (booted_of (plan_in image) machine) call ending → RunsTo call.host.files play ending
+runs_to play machine call ending known image ran = record {
+  machine = machine;
+  image = image;
+  events = ran.events;
+  is_file = ran.is_file;
+  ended = (ran.exact (known machine image ran.events ran.is_file)).ended;
+}
 
 unstarted_complete : (play : Play) (machine : Machine) (call : Call) (plan : BootPlan) (status : Status) → (¬ StoreRose call.store)
     → Stops plan play.store machine call.store status → IsUnwritten call
@@ -154,26 +159,26 @@ unstarted_complete play machine call plan (EventFault line) still stopped unwrit
 unstarted_complete play machine call plan (StepLimit limit) still stopped unwritten = absurd stopped
 
 played_complete : (play : Play) (room : Room) (machine : Machine) (call : Call) (status : Status) → (¬ HostRose call) → (¬ OutRose call) → (¬ StoreRose call.store)
-    → Image call.host.files play.image play.slots machine → HasCause play room machine call status → Tells play machine call status
+    → IsKnownPlay play call → (image : Image call.host.files play.image play.slots machine) → HasCause play room machine call status
+    → Tells play (booted_of (plan_in image) machine) call status
     → IsVerdict call.host.files play status ⊎ ((status ≡ NoMemory) × IsUnwritten call)
-played_complete play room machine call Done quiet calm still image cause told = inl (runs_to play machine call Played image told)
-played_complete play room machine call (EventFault line) quiet calm still image cause told = inl (runs_to play machine call (BadLine line) image told)
-played_complete play room machine call (StepLimit limit) quiet calm still image cause told = inl (cause, runs_to play machine call LimitMet image told)
-played_complete play room machine call SwapFault quiet calm still image cause told = absurd (still cause.0)
-played_complete play room machine call WriteFault quiet calm still image cause told = absurd (calm cause)
-played_complete play room machine call ReadFault quiet calm still image cause told = absurd (quiet cause)
-played_complete play room machine call Usage quiet calm still image cause told = absurd told
-played_complete play room machine call NoMemory quiet calm still image cause told = absurd told
-played_complete play room machine call (ImageFault fault) quiet calm still image cause told = absurd told
+played_complete play room machine call Done quiet calm still known image cause told = inl (runs_to play machine call Played known image told)
+played_complete play room machine call (EventFault line) quiet calm still known image cause told = inl (runs_to play machine call (BadLine line) known image told)
+played_complete play room machine call (StepLimit limit) quiet calm still known image cause told = inl (cause, runs_to play machine call LimitMet known image told)
+played_complete play room machine call SwapFault quiet calm still known image cause told = absurd (still cause.0)
+played_complete play room machine call WriteFault quiet calm still known image cause told = absurd (calm cause)
+played_complete play room machine call ReadFault quiet calm still known image cause told = absurd (quiet cause)
+played_complete play room machine call Usage quiet calm still known image cause told = absurd told
+played_complete play room machine call NoMemory quiet calm still known image cause told = absurd told
+played_complete play room machine call (ImageFault fault) quiet calm still known image cause told = absurd told
 
 play_complete : (play : Play) (call : Call) → EndsPlay play call → (¬ HostRose call) → (¬ OutRose call) → (¬ StoreRose call.store) → IsPlayComplete play call
-play_complete play call (inl refused) quiet calm still trusted = refused_complete play call call.status quiet refused.image.refused refused.image.unwritten
-play_complete play call (inr (inl unstarted)) quiet calm still trusted =
+play_complete play call (inl refused) quiet calm still known = refused_complete play call call.status quiet refused.image.refused refused.image.unwritten
+play_complete play call (inr (inl unstarted)) quiet calm still known =
     unstarted_complete play unstarted.machine call (plan_in unstarted.image) call.status still unstarted.stopped unstarted.unwritten
-play_complete play call (inr (inr (inl unpicked))) quiet calm still trusted = absurd (quiet unpicked.cause)
-play_complete play call (inr (inr (inr played))) quiet calm still trusted =
-    played_complete play _ played.machine call call.status quiet calm still played.image played.cause
-    (played.content (trusted played.image.bytes played.image.boots.args played.image.read played.image.boots.sound))
+play_complete play call (inr (inr (inl unpicked))) quiet calm still known = absurd (quiet unpicked.cause)
+play_complete play call (inr (inr (inr played))) quiet calm still known =
+    played_complete play _ played.machine call call.status quiet calm still known played.image played.cause played.content
 
 refused_check_complete : (check : Check) (call : Call) (status : Status) → (¬ HostRose call)
     → Refuses call.host.files check.image check.slots (HostRose call) status → IsUnwritten call
@@ -267,33 +272,39 @@ demo_complete clients call calm still cause (inr played) = demo_told clients cal
 
 -- ---- `suspend`
 
+saved_to : (suspend : Suspend) (machine : Machine) (call : Call) (ending : Ending) (events : List ℕ)
+    → Image call.host.files suspend.image suspend.slots machine → IsFile call.host.files suspend.events events
+    → (run_of suspend.limit machine events).ending ≡ ending → RunsTo call.host.files (silent suspend) ending
+saved_to suspend machine call ending events image is_file ended =
+    record { machine = machine; image = image; events = events; is_file = is_file; ended = ended }
+
 saved_complete : (suspend : Suspend) (room : Room) (machine : Machine) (call : Call) (status : Status)
-    → (¬ HostRose call) → (¬ OutRose call) → (¬ StoreRose call.store)
-    → Image call.host.files suspend.image suspend.slots machine → HasCause (silent suspend) room machine call status → Saves suspend machine call status
+    → (¬ HostRose call) → (¬ OutRose call) → (¬ StoreRose call.store) → IsKnownPlay (silent suspend) call
+    → (image : Image call.host.files suspend.image suspend.slots machine) → HasCause (silent suspend) room machine call status
+    → Saves suspend (booted_of (plan_in image) machine) call status
     → IsVerdict call.host.files (silent suspend) status ⊎ ((status ≡ NoMemory) × IsUnwritten call)
-saved_complete suspend room machine call Done quiet calm still image cause saved =
-    inl (record { machine = machine; image = image; events = saved.events; is_file = saved.is_file; ended = saved.ended })
-saved_complete suspend room machine call (EventFault line) quiet calm still image cause saved =
-    inl (record { machine = machine; image = image; events = saved.events; is_file = saved.is_file; ended = saved.ended })
-saved_complete suspend room machine call (StepLimit limit) quiet calm still image cause saved =
-    inl (cause, record { machine = machine; image = image; events = saved.events; is_file = saved.is_file; ended = saved.ended })
-saved_complete suspend room machine call SwapFault quiet calm still image cause saved = absurd (still cause.0)
-saved_complete suspend room machine call WriteFault quiet calm still image cause saved = absurd (calm cause)
-saved_complete suspend room machine call ReadFault quiet calm still image cause saved = absurd (quiet cause)
-saved_complete suspend room machine call Usage quiet calm still image cause saved = absurd saved
-saved_complete suspend room machine call NoMemory quiet calm still image cause saved = absurd saved
-saved_complete suspend room machine call (ImageFault fault) quiet calm still image cause saved = absurd saved
+saved_complete suspend room machine call Done quiet calm still known image cause saved =
+    inl (saved_to suspend machine call Played saved.events image saved.is_file (saved.exact (known machine image saved.events saved.is_file)).ended)
+saved_complete suspend room machine call (EventFault line) quiet calm still known image cause saved =
+    inl (saved_to suspend machine call (BadLine line) saved.events image saved.is_file (saved.exact (known machine image saved.events saved.is_file)))
+saved_complete suspend room machine call (StepLimit limit) quiet calm still known image cause saved =
+    inl (cause, saved_to suspend machine call LimitMet saved.events image saved.is_file (saved.exact (known machine image saved.events saved.is_file)))
+saved_complete suspend room machine call SwapFault quiet calm still known image cause saved = absurd (still cause.0)
+saved_complete suspend room machine call WriteFault quiet calm still known image cause saved = absurd (calm cause)
+saved_complete suspend room machine call ReadFault quiet calm still known image cause saved = absurd (quiet cause)
+saved_complete suspend room machine call Usage quiet calm still known image cause saved = absurd saved
+saved_complete suspend room machine call NoMemory quiet calm still known image cause saved = absurd saved
+saved_complete suspend room machine call (ImageFault fault) quiet calm still known image cause saved = absurd saved
 
 suspend_complete : (suspend : Suspend) (call : Call) → EndsSuspend suspend call → (¬ HostRose call) → (¬ OutRose call) → (¬ StoreRose call.store)
     → IsSuspendComplete suspend call
-suspend_complete suspend call (inl refused) quiet calm still trusted =
+suspend_complete suspend call (inl refused) quiet calm still known =
     refused_complete (silent suspend) call call.status quiet refused.image.refused refused.image.unwritten
-suspend_complete suspend call (inr (inl unstarted)) quiet calm still trusted =
+suspend_complete suspend call (inr (inl unstarted)) quiet calm still known =
     unstarted_complete (silent suspend) unstarted.machine call (plan_in unstarted.image) call.status still unstarted.stopped unstarted.unwritten
-suspend_complete suspend call (inr (inr (inl unpicked))) quiet calm still trusted = absurd (quiet unpicked.cause)
-suspend_complete suspend call (inr (inr (inr saved))) quiet calm still trusted =
-    saved_complete suspend _ saved.machine call call.status quiet calm still saved.image saved.cause
-    (saved.content (trusted saved.image.bytes saved.image.boots.args saved.image.read saved.image.boots.sound))
+suspend_complete suspend call (inr (inr (inl unpicked))) quiet calm still known = absurd (quiet unpicked.cause)
+suspend_complete suspend call (inr (inr (inr saved))) quiet calm still known =
+    saved_complete suspend _ saved.machine call call.status quiet calm still known saved.image saved.cause saved.content
 
 -- ---- all commands
 

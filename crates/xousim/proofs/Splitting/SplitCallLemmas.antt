@@ -16,9 +16,8 @@ use Rattle.xousim.specs.declared.status.Status.TheVariants.{Done, Usage, ReadFau
 use Rattle.event_player.specs.History.{History, run_of}
 use Rattle.xousim.specs.Outcome.Images.{Boots, IsSoundImage, Refuses, plan_in}
 use Rattle.xousim.specs.Outcome.Plays.{EndsPlay, EndsPlayed, HasCause, Ran, Tells}
-use Rattle.xousim.specs.Outcome.Sides.{Call, HostRose, IsTrusted, StoreSide}
-use Rattle.event_player.specs.Rooms.{Room}
-use Rattle.xousim.specs.Outcome.Starts.{Stops, room_of}
+use Rattle.xousim.specs.Outcome.Sides.{Call, HostRose, StoreSide}
+use Rattle.xousim.specs.Outcome.Starts.{Booted, Stops, booted_of}
 use Rattle.host_io.specs.Reading.{IsFile}
 use Rattle.xousim.specs.SplitCalls.{EndAlike, PlaysOn, is_cut_short}
 use Rattle.xousim.specs.Splits.{Setup, SplitOneCapacity}
@@ -54,17 +53,17 @@ not_stopped plan name start store (ImageFault fault) s whole = s
 not_stopped plan name start store (EventFault line) s whole = s
 not_stopped plan name start store (StepLimit limit) s whole = s
 
-ran : (play : Play) (room : Room) (machine : Machine) (call : Call) (status : Status) → Tells play machine call status → HasCause play room machine call status
-    → is_cut_short status ≡ false → (ending : Ending) × Ran play machine call ending × (status ≡ status_of play.limit ending)
-ran play room machine call Done tells cause whole = (Played, tells, refl)
-ran play room machine call (EventFault line) tells cause whole = (BadLine line, tells, refl)
-ran play room machine call (StepLimit limit) tells cause whole = (LimitMet, tells, ap (λ (l : ℕ). StepLimit l) cause)
-ran play room machine call ReadFault tells cause whole = absurd (not_whole whole)
-ran play room machine call WriteFault tells cause whole = absurd (not_whole whole)
-ran play room machine call SwapFault tells cause whole = absurd (not_whole whole)
-ran play room machine call NoMemory tells cause whole = absurd tells
-ran play room machine call Usage tells cause whole = absurd tells
-ran play room machine call (ImageFault fault) tells cause whole = absurd tells
+ran : (play : Play) (booted : Booted) (call : Call) (status : Status) → Tells play booted call status → HasCause play booted.room booted.machine call status
+    → is_cut_short status ≡ false → (ending : Ending) × Ran play booted call ending × (status ≡ status_of play.limit ending)
+ran play booted call Done tells cause whole = (Played, tells, refl)
+ran play booted call (EventFault line) tells cause whole = (BadLine line, tells, refl)
+ran play booted call (StepLimit limit) tells cause whole = (LimitMet, tells, ap (λ (l : ℕ). StepLimit l) cause)
+ran play booted call ReadFault tells cause whole = absurd (not_whole whole)
+ran play booted call WriteFault tells cause whole = absurd (not_whole whole)
+ran play booted call SwapFault tells cause whole = absurd (not_whole whole)
+ran play booted call NoMemory tells cause whole = absurd tells
+ran play booted call Usage tells cause whole = absurd tells
+ran play booted call (ImageFault fault) tells cause whole = absurd tells
 
 module _ (setup : Setup) (events : List ℕ) (play : Play) (call : Call) (plays : PlaysOn setup events play call) (args : Args)
     (sound : IsSoundImage setup.image setup.asked args) where
@@ -96,14 +95,14 @@ module _ (setup : Setup) (events : List ℕ) (play : Play) (call : Call) (plays 
       let boots : Boots setup.image setup.asked e.machine =
       subst (λ (asked : Option ℕ). Boots setup.image asked e.machine) plays.slots
       (subst (λ (bytes : List ℕ). Boots bytes play.slots e.machine) (is_bytes play.image image.bytes setup.image plays.image image.read) image.boots) in
-      let trusted : IsTrusted call.store (plan_in image).slots = plays.trusted image.bytes image.boots.args image.read image.boots.sound in
-      let r = ran play (room_of (plan_in image)) e.machine call call.status (e.content trusted) e.cause plays.whole in
+      let r = ran play (booted_of (plan_in image) e.machine) call call.status e.content e.cause plays.whole in
+      let wrote = r.1.exact (plays.known e.machine image r.1.events r.1.is_file) in
       let same : r.1.events ≡ events = is_bytes play.events r.1.events events plays.event_file r.1.is_file in
       record {
         machine = e.machine;
         boots = boots;
-        status = r.2 ∙ ap (status_of play.limit) (sym r.1.ended ∙ ap (λ (bytes : List ℕ). (run_of play.limit e.machine bytes).ending) same);
-        written = subst (λ (bytes : List ℕ). Grows call.out.written call.out.written_after (output play.tells (run_of play.limit e.machine bytes))) same r.1.written;
+        status = r.2 ∙ ap (status_of play.limit) (sym wrote.ended ∙ ap (λ (bytes : List ℕ). (run_of play.limit e.machine bytes).ending) same);
+        written = subst (λ (bytes : List ℕ). Grows call.out.written call.out.written_after (output play.tells (run_of play.limit e.machine bytes))) same wrote.written;
       }
 
   out_of : EndsPlay play call → PlayedOut setup events play call

@@ -1,10 +1,11 @@
--- Two images that differ in RAM alone spell the same arguments but for RAM, and so boot the same machine where their capacities are one.
-use Rattle.std.proofs.Common.{◌≡◌, ◌∙◌, ap, sym, subst, refl, ℕ, ◌+◌, ◌-◌, ◌*◌, ◌/◌, ◌<◌, ◌≤◌, false, nat_lt, List, [], ◌∷◌, ◌++◌, map, length, take, drop, get_or, arith}
+-- Two images that load the same boot the same machine where their capacities are one. Two that differ in RAM alone spell the same arguments
+-- but for RAM, and so load the same.
+use Rattle.std.proofs.Common.{◌≡◌, ◌∙◌, ap, sym, subst, refl, ℕ, ◌+◌, ◌-◌, ◌*◌, ◌/◌, ◌<◌, ◌≤◌, false, nat_lt, List, Option, [], ◌∷◌, ◌++◌, map, length, take, drop, get_or, arith}
 use Rattle.std.specs.Prelude.{◌↔◌, codes}
 use Rattle.std.specs.List.{flat_map, AllByRecursion}
 use Rattle.std.proofs.lemmas.Bool.Decides.{nat_tests}
 use Rattle.std.proofs.lemmas.Bool.{or_parts, ltb-false}
-use Rattle.std.proofs.lemmas.List.{append_assoc, drop_at, drop-drop, ext_get_or, get_or-drop, length-append, length-drop, length-map, map-id}
+use Rattle.std.proofs.lemmas.List.{append_assoc, drop_at, drop-drop, ext_get_or, get_or-drop, length-append, length-drop, length-map}
 use Rattle.std.proofs.lemmas.List.Elements.{recursion_from_All}
 use Rattle.kernel_args.specs.declared.args.Args.{Args}
 use Rattle.kernel_args.specs.declared.args.ProcArgs.{ProcArgs}
@@ -28,10 +29,10 @@ use Rattle.xk_kernel.specs.Start.{start}
 use Rattle.event_player.specs.declared.telling.Telling.{Telling}
 use Rattle.xousim.specs.Outcome.Images.{Boots, IsSoundImage}
 use Rattle.event_player.specs.History.{run_of}
-use Rattle.xousim.specs.Splits.{Setup, DifferInRam, SplitOneCapacity, says_ram}
+use Rattle.xousim.specs.Splits.{DifferInRam, LoadAlike, Setup, SplitOneCapacity, behind_row, says_ram}
 use Rattle.event_player.specs.Telling.{output}
 use Rattle.xousim.proofs.Images.MatchedLemmas.{no_plan_fault}
-use Rattle.xousim.proofs.Images.MovedStartLemmas.{StandsMoved, processes_moved, room_of, shown, start_shown, started}
+use Rattle.xousim.proofs.Images.MovedStartLemmas.{Shown, StandsMoved, processes_moved, room_of, shown, start_shown, started}
 
 -- ---- bytes
 
@@ -160,15 +161,67 @@ module _ (image other : List ℕ) (args others : Args) (differ : DifferInRam ima
         };
       })
 
--- ---- the start
+-- ---- what is loaded
 
-stand : (image : List ℕ) (words : ℕ) (ps : List ProcArgs) → AllByRecursion (IsFaultless words image) ps
-    → AllByRecursion (λ p. StandsMoved (4 * words) (4 * words) p p) ps
-stand image words [] faultless = tt
-stand image words (p ∷ ps) faultless =
+-- images that differ in RAM alone load the same
+module _ (image other : List ℕ) (args others : Args) (differ : DifferInRam image other)
+    (spelled : Spells image args) (other_spelled : Spells other others) where
+  same_bytes : drop (4 * others.words) other ≡ drop (4 * args.words) image
+  same_bytes =
+      let long = spelled.sound.words in
+      let words : others.words ≡ args.words = ap (λ (a : Args). a.words) (same_args image other args others differ spelled other_spelled) in
+      let behind : 24 + (4 * args.words - 24) ≡ 4 * args.words = omega arith in
+      ap (λ n. drop (4 * n) other) words
+      ∙ subst (λ n. drop n other ≡ drop n image) behind (kept_from image other differ (4 * args.words - 24))
+
+  pub ram_loads_alike : LoadAlike image other args others
+  ram_loads_alike = record {
+    processes = ap (λ (a : Args). map (behind_row a) a.procs) (same_args image other args others differ spelled other_spelled);
+    bytes = same_bytes;
+  }
+
+-- a process that is loaded so far behind the row of tags of these arguments
+abbrev put_behind : Args → ProcArgs → ProcArgs
+put_behind args process = record process { load = process.load + 4 * args.words }
+
+abbrev StandsBehind : ℕ → ProcArgs → Type 0
+StandsBehind row process = row ≤ process.load
+
+behind_all : (image : List ℕ) (words : ℕ) (ps : List ProcArgs) → AllByRecursion (IsFaultless words image) ps → AllByRecursion (StandsBehind (4 * words)) ps
+behind_all image words [] faultless = tt
+behind_all image words (p ∷ ps) faultless =
     let parts = or_parts (nat_lt p.load (4 * words)) (nat_lt (length image) (p.load + file_sizes p.sections)) faultless.0.load in
-    let behind : 4 * words ≤ p.load = ltb-false _ _ parts.0 in
-    (record { behind = behind; load = refl; entry = refl; sections = refl }, stand image words ps faultless.1)
+    (ltb-false _ _ parts.0, behind_all image words ps faultless.1)
+
+stands_behind : (image : List ℕ) (asked : Option ℕ) (args : Args) → IsSoundImage image asked args → AllByRecursion (StandsBehind (4 * args.words)) args.procs
+stands_behind image asked args sound =
+    let no_fault = no_plan_fault image asked args sound.spelled sound.no_fault in
+    behind_all image args.words args.procs (recursion_from_All (IsFaultless args.words image) args.procs (all_faultless args image asked no_fault))
+
+-- a process shows the same where it is put behind its own row again
+put_back : (file : List ℕ) (args : Args) (ps : List ProcArgs) → AllByRecursion (StandsBehind (4 * args.words)) ps
+    → map (shown file) (map process_plan (map (put_behind args) (map (behind_row args) ps))) ≡ map (shown file) (map process_plan ps)
+put_back file args [] stands = refl
+put_back file args (p ∷ ps) stands =
+    let behind : 4 * args.words ≤ p.load = stands.0 in
+    let same : p.load - 4 * args.words + 4 * args.words ≡ p.load = omega arith in
+    ap (λ n. shown file (process_plan (record p { load = n })) ∷ map (shown file) (map process_plan (map (put_behind args) (map (behind_row args) ps)))) same
+    ∙ ap (λ ss. shown file (process_plan p) ∷ ss) (put_back file args ps stands.1)
+
+-- where it is put behind another row, its bytes have moved so
+abbrev moved_to : Args → Args → ProcArgs → ProcArgs
+moved_to args others process = put_behind others (behind_row args process)
+
+moved_all : (args others : Args) (ps : List ProcArgs) → map (put_behind others) (map (behind_row args) ps) ≡ map (moved_to args others) ps
+moved_all args others [] = refl
+moved_all args others (p ∷ ps) = ap (λ qs. moved_to args others p ∷ qs) (moved_all args others ps)
+
+stand : (args others : Args) (ps : List ProcArgs) → AllByRecursion (StandsBehind (4 * args.words)) ps
+    → AllByRecursion (λ p. StandsMoved (4 * args.words) (4 * others.words) p (moved_to args others p)) ps
+stand args others [] stands = tt
+stand args others (p ∷ ps) stands =
+    let behind : 4 * args.words ≤ p.load = stands.0 in
+    (record { behind = behind; load = omega arith; entry = refl; sections = refl }, stand args others ps stands.1)
 
 within : (image : List ℕ) (args : Args) → Spells image args → 4 * args.words ≤ length image
 within image args s =
@@ -176,29 +229,26 @@ within image args s =
     let all : length image ≡ length row + length s.rest = ap (λ (l : List ℕ). length l) s.whole ∙ length-append row s.rest in
     omega (arith, s.size)
 
-module _ (one other : Setup) (args others : Args) (differ : DifferInRam one.image other.image)
+-- ---- the start
+
+module _ (one other : Setup) (args others : Args) (alike : LoadAlike one.image other.image args others)
     (sound : IsSoundImage one.image one.asked args) (other_sound : IsSoundImage other.image other.asked others) where
-  moved : HasMoved one.image other.image (4 * args.words) (4 * args.words)
-  moved =
-      let long = sound.spelled.sound.words in
-      let size = differ.size in
-      let row = within one.image args sound.spelled in
-      let behind : 24 + (4 * args.words - 24) ≡ 4 * args.words = omega arith in
-      record {
-        within = row;
-        within_moved = omega arith;
-        rest = subst (λ n. drop n other.image ≡ drop n one.image) behind (kept_from one.image other.image differ (4 * args.words - 24));
-      }
+  moved : HasMoved one.image other.image (4 * args.words) (4 * others.words)
+  moved = record {
+    within = within one.image args sound.spelled;
+    within_moved = within other.image others other_sound.spelled;
+    rest = alike.bytes;
+  }
 
   same_processes : map (shown other.image) (map process_plan others.procs) ≡ map (shown one.image) (map process_plan args.procs)
   same_processes =
       let ps = args.procs in
-      let no_fault = no_plan_fault one.image one.asked args sound.spelled sound.no_fault in
-      let faultless = recursion_from_All (IsFaultless args.words one.image) ps (all_faultless args one.image one.asked no_fault) in
-      ap (λ (a : Args). map (shown other.image) (map process_plan a.procs))
-      (same_args one.image other.image args others differ sound.spelled other_sound.spelled)
-      ∙ ap (λ (qs : List ProcArgs). map (shown other.image) (map process_plan qs)) (sym (map-id ps))
-      ∙ processes_moved one.image other.image (4 * args.words) (4 * args.words) moved (λ p. p) ps (stand one.image args.words ps faultless)
+      let Shows : List ProcArgs → List Shown = λ qs. map (shown other.image) (map process_plan qs) in
+      sym (put_back other.image others others.procs (stands_behind other.image other.asked others other_sound))
+      ∙ ap (λ qs. Shows (map (put_behind others) qs)) alike.processes
+      ∙ ap Shows (moved_all args others ps)
+      ∙ processes_moved one.image other.image (4 * args.words) (4 * others.words) moved (moved_to args others) ps
+      (stand args others ps (stands_behind one.image one.asked args sound))
 
   same_start : capacity (args.ram_size / 4096) (length args.procs) (slots_used args one.asked)
       ≡ capacity (others.ram_size / 4096) (length others.procs) (slots_used others other.asked)

@@ -2,7 +2,7 @@
 use Rattle.std.specs.Prelude.{◌≡◌, ◌⊎◌, true, []}
 use Rattle.boot_plan.specs.declared.plans.BootPlan.{BootPlan}
 use Rattle.xk_ports.specs.declared.host.FileSlot.TheVariants.{First}
-use Rattle.xk_ports.specs.Told.{Grows, GrowsByPrefix}
+use Rattle.xk_ports.specs.Told.{Grows, GrowsByProperPrefix}
 use Rattle.xousim.specs.declared.status.Status.{Status}
 use Rattle.xousim.specs.declared.status.Status.TheVariants.{Done, Usage, ReadFault, WriteFault, ImageFault, EventFault, StepLimit}
 use Rattle.xousim.specs.declared.status.Status.TheVariants.{SwapFault, NoMemory}
@@ -15,7 +15,7 @@ use Rattle.xousim.specs.Words.{Check}
 -- what was written of the plan, by the status
 abbrev pub Summarizes : BootPlan → SinkSide → Status → Type 0
 Summarizes plan out Done = Grows out.written out.written_after (summary_of plan)
-Summarizes plan out WriteFault = GrowsByPrefix out.written out.written_after (summary_of plan)
+Summarizes plan out WriteFault = GrowsByProperPrefix out.written out.written_after (summary_of plan)
 Summarizes plan out Usage = ⊥
 Summarizes plan out ReadFault = ⊥
 Summarizes plan out NoMemory = ⊥

@@ -6,7 +6,7 @@ use Rattle.kernel_args.specs.Converting.{converted}
 use Rattle.boot_plan.specs.FaultNumbers.{too_long}
 use Rattle.xk_base.specs.declared.limits.TheConstants.{IMAGE_LIMIT, SLOT_LIMIT}
 use Rattle.xk_ports.specs.declared.host.FileSlot.TheVariants.{First}
-use Rattle.xk_ports.specs.Told.{Grows, GrowsByPrefix}
+use Rattle.xk_ports.specs.Told.{Grows, GrowsByProperPrefix}
 use Rattle.xousim.specs.declared.status.Status.{Status}
 use Rattle.xousim.specs.declared.status.Status.TheVariants.{Done, Usage, ReadFault, WriteFault, ImageFault, EventFault, StepLimit}
 use Rattle.xousim.specs.declared.status.Status.TheVariants.{SwapFault, NoMemory}
@@ -33,7 +33,7 @@ long_file = record { what = too_long; at = 0 }
 -- what was written of these bytes, by the status: nothing where they are more than an image may have
 abbrev pub Writes : List ℕ → SinkSide → Status → Type 0
 Writes bytes out Done = (length bytes ≤ IMAGE_LIMIT) × Grows out.written out.written_after bytes
-Writes bytes out WriteFault = (length bytes ≤ IMAGE_LIMIT) × GrowsByPrefix out.written out.written_after bytes
+Writes bytes out WriteFault = (length bytes ≤ IMAGE_LIMIT) × GrowsByProperPrefix out.written out.written_after bytes
 Writes bytes out (ImageFault fault) = (IMAGE_LIMIT < length bytes) × (fault ≡ long_file) × (out.written_after ≡ out.written)
 Writes bytes out Usage = ⊥
 Writes bytes out ReadFault = ⊥

@@ -2,7 +2,7 @@
 use Rattle.std.specs.Prelude.{◌≡◌, ◌⊎◌, ℕ, true, None}
 use Rattle.xk_base.specs.declared.limits.TheConstants.{DEFAULT_STEPS}
 use Rattle.machine_history.specs.HistoryMoments.{moments_of}
-use Rattle.xk_ports.specs.Told.{Grows, GrowsByPrefix}
+use Rattle.xk_ports.specs.Told.{Grows, GrowsByProperPrefix}
 use Rattle.xousim.specs.declared.status.Status.{Status}
 use Rattle.xousim.specs.declared.status.Status.TheVariants.{Done, Usage, ReadFault, WriteFault, ImageFault, EventFault, StepLimit}
 use Rattle.xousim.specs.declared.status.Status.TheVariants.{SwapFault, NoMemory}
@@ -13,11 +13,11 @@ use Rattle.event_player.specs.Rooms.{ComesFull}
 use Rattle.xousim.specs.Outcome.Starts.{Stops, room_of}
 
 -- The load of so many clients was played, in a run without slots, and what was written, by the status: the line that sums up its history, a
--- part of it, or nothing, where the store failed: its count rose, and some state of the run has more pages than there are frames for.
+-- proper part of it, or nothing, where the store failed: its count rose, and some state of the run has more pages than there are frames for.
 abbrev pub TellsDemo : ℕ → SinkSide → StoreSide → Status → Type 0
 TellsDemo clients out store Done = Grows out.written out.written_after (demo_line clients (totals_of (load_history clients).records))
 TellsDemo clients out store WriteFault =
-    GrowsByPrefix out.written out.written_after (demo_line clients (totals_of (load_history clients).records))
+    GrowsByProperPrefix out.written out.written_after (demo_line clients (totals_of (load_history clients).records))
 TellsDemo clients out store NoMemory = ⊥
 TellsDemo clients out store SwapFault =
     StoreRose store

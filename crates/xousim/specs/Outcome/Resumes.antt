@@ -5,8 +5,8 @@ use Rattle.xk_ports.specs.declared.host.FileSlot.TheVariants.{First}
 use Rattle.event_player.specs.declared.telling.Telling.TheVariants.{Trace}
 use Rattle.xousim.specs.declared.status.Status.TheVariants.{Done, ReadFault}
 use Rattle.xousim.specs.Outcome.Plays.{AsksBoth, HasCause, Tells}
-use Rattle.xousim.specs.Outcome.Sides.{Call, HostRose, IsTrusted, IsUnprepared, IsUnwritten, Prepares}
-use Rattle.xousim.specs.Outcome.Starts.{StopsIn}
+use Rattle.xousim.specs.Outcome.Sides.{Call, HostRose, IsUnprepared, IsUnwritten, Prepares}
+use Rattle.xousim.specs.Outcome.Starts.{Booted, StopsIn}
 use Rattle.xousim.specs.Outcome.States.{RefusesState, StateFile, room_from}
 use Rattle.host_io.specs.Reading.{Asked, AsksFor, IsTold}
 use Rattle.xousim.specs.Words.{Play, Resume}
@@ -25,6 +25,10 @@ traced resume machine = record {
   slots = Some resume.slots;
   store = None;
 }
+
+-- what a run that goes on from a machine starts on
+abbrev pub resumed_on : Machine → ℕ → Booted
+resumed_on machine slots = record { machine = machine; room = room_from machine slots; slots = slots }
 
 -- There is no state to go on from, and nothing is written. The state file was asked for at the first slot and picked there or not, nothing
 -- else was, and the store isn't touched.
@@ -59,7 +63,7 @@ pub record EndsResumed (resume : Resume) (call : Call) : Type 0 where
   pub asked : AsksBoth (traced resume machine) call true
   pub prepared : Prepares call.store resume.slots None true
   pub cause : HasCause (traced resume machine) (room_from machine resume.slots) machine call call.status
-  pub content : IsTrusted call.store resume.slots → Tells (traced resume machine) machine call call.status
+  pub content : Tells (traced resume machine) (resumed_on machine resume.slots) call call.status
   -- at the end of a run both files were read to their ends
   pub state_read : call.status ≡ Done → IsTold call.host.image_left []
   pub events_read : call.status ≡ Done → IsTold call.host.left []

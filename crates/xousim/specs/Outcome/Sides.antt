@@ -10,7 +10,7 @@ use Rattle.xk_ports.specs.declared.host.FileSlot.TheVariants.{First, Second}
 use Rattle.xk_ports.specs.Host.{FileAsked}
 use Rattle.xk_ports.specs.Keeping.{tells_truly}
 use Rattle.xk_ports.specs.Store.{StoreAsked}
-use Rattle.xk_ports.specs.Told.{Grows, GrowsByPrefix}
+use Rattle.xk_ports.specs.Told.{Grows, GrowsByProperPrefix}
 use Rattle.xousim.specs.declared.status.Status.{Status}
 
 -- the files of the host by their names, where they are told
@@ -108,7 +108,7 @@ pub record IsUnprepared (store : StoreSide) : Type 0 where
   pub faults : store.faults_after ≡ store.faults
 
 -- What the pages of a run of so many slots hold is known, whether they are out or not: the store that is handed back is honest and tells,
--- or the run has no slots. On this rests what is said of the machine of a run, of its output and of its ending, and nothing else.
+-- or the run has no slots.
 abbrev pub IsTrusted : StoreSide → ℕ → Type 0
 IsTrusted store slots = IsTrue (store.tells_truly || slots == 0)
 
@@ -125,8 +125,8 @@ pub record IsUntouched (status : Status) (call : Call) : Type 0 where
 
 -- ---- the notes
 
--- the notes got this text, or a part from its front where their count of faults rose
+-- the notes got this text, or a proper part from its front where their count of faults rose
 abbrev pub Notes : SinkSide → List ℕ → Type 0
 Notes notes text =
     Grows notes.written notes.written_after text
-    ⊎ (Rose notes.faults notes.faults_after × GrowsByPrefix notes.written notes.written_after text)
+    ⊎ (Rose notes.faults notes.faults_after × GrowsByProperPrefix notes.written notes.written_after text)

@@ -3,18 +3,19 @@ use Rattle.std.specs.Prelude.{◌≡◌, ◌⊎◌, ℕ, true, List, [], None}
 use Rattle.machine_model.specs.State.Machine.{Machine}
 use Rattle.suspend_image.specs.Saveable.{IsSpellable}
 use Rattle.suspend_image.specs.StateBytes.{saved_bytes}
-use Rattle.xk_ports.specs.Told.{Grows, GrowsByPrefix}
+use Rattle.xk_ports.specs.Told.{Grows, GrowsByProperPrefix}
 use Rattle.event_player.specs.declared.telling.Telling.TheVariants.{Nothing}
 use Rattle.event_player.specs.declared.ending.Ending.{Ending}
 use Rattle.event_player.specs.declared.ending.Ending.TheVariants.{Played, LimitMet, BadLine}
 use Rattle.xousim.specs.declared.status.Status.{Status}
 use Rattle.xousim.specs.declared.status.Status.TheVariants.{Done, Usage, ReadFault, WriteFault, ImageFault, EventFault, StepLimit}
 use Rattle.xousim.specs.declared.status.Status.TheVariants.{SwapFault, NoMemory}
-use Rattle.event_player.specs.History.{History, run_of}
+use Rattle.event_text.specs.EventFile.{input_of}
+use Rattle.event_player.specs.History.{History, MayEnd, run_of}
 use Rattle.xousim.specs.Outcome.Images.{Image, plan_in}
 use Rattle.xousim.specs.Outcome.Plays.{AsksBoth, EndsRefused, EndsUnpicked, EndsUnstarted, HasCause, RanWholeLines}
-use Rattle.xousim.specs.Outcome.Sides.{Call, IsTrusted, IsUnwritten, Prepares}
-use Rattle.xousim.specs.Outcome.Starts.{room_of}
+use Rattle.xousim.specs.Outcome.Sides.{Call, IsUnwritten, Prepares}
+use Rattle.xousim.specs.Outcome.Starts.{Booted, KnowsPages, booted_of, room_of}
 use Rattle.host_io.specs.Reading.{IsFile, IsTold}
 use Rattle.xousim.specs.Words.{Play, Suspend}
 
@@ -41,38 +42,46 @@ saved_at machine (BadLine line) = []
 abbrev pub saved_of : History → List ℕ
 saved_of h = saved_at h.machine h.ending
 
--- All events were played, and exactly the state bytes of the last state were written. They spell that state.
-pub record RanSaved (suspend : Suspend) (machine : Machine) (call : Call) : Type 0 where
-  pub events : List ℕ
-  pub is_file : IsFile call.host.files suspend.events events
+-- All events of these bytes were played, and exactly the state bytes of the last state were written. They spell that state.
+pub record WroteState (suspend : Suspend) (machine : Machine) (call : Call) (events : List ℕ) : Type 0 where
   pub ended : (run_of suspend.limit machine events).ending ≡ Played
   pub spelled : IsSpellable (run_of suspend.limit machine events).machine
   pub written : Grows call.out.written call.out.written_after (saved_bytes (run_of suspend.limit machine events).machine)
 
--- a part from the front of what the command writes of the history was written
-pub record RanSavedInPart (suspend : Suspend) (machine : Machine) (call : Call) : Type 0 where
+-- no line of the event file is bad; where what the pages hold is known, the last state was written
+pub record RanSaved (suspend : Suspend) (booted : Booted) (call : Call) : Type 0 where
   pub events : List ℕ
   pub is_file : IsFile call.host.files suspend.events events
-  pub written : GrowsByPrefix call.out.written call.out.written_after (saved_of (run_of suspend.limit machine events))
+  pub may : MayEnd (input_of events) Played
+  pub exact : KnowsPages call.store booted suspend.limit (input_of events).events → WroteState suspend booted.machine call events
 
--- the history ended in this way, and nothing was written
-pub record RanUnsaved (suspend : Suspend) (machine : Machine) (call : Call) (ending : Ending) : Type 0 where
+-- where what the pages hold is known, a proper part from the front of what the command writes of the history was written
+pub record RanSavedInPart (suspend : Suspend) (booted : Booted) (call : Call) : Type 0 where
   pub events : List ℕ
   pub is_file : IsFile call.host.files suspend.events events
-  pub ended : (run_of suspend.limit machine events).ending ≡ ending
+  pub exact : KnowsPages call.store booted suspend.limit (input_of events).events
+      → GrowsByProperPrefix call.out.written call.out.written_after (saved_of (run_of suspend.limit booted.machine events))
+
+-- nothing was written; the event file may end in this way, and its history did where what the pages hold is known
+pub record RanUnsaved (suspend : Suspend) (booted : Booted) (call : Call) (ending : Ending) : Type 0 where
+  pub events : List ℕ
+  pub is_file : IsFile call.host.files suspend.events events
+  pub may : MayEnd (input_of events) ending
+  pub exact : KnowsPages call.store booted suspend.limit (input_of events).events
+      → (run_of suspend.limit booted.machine events).ending ≡ ending
   pub unwritten : IsUnwritten call
 
--- What was written where the image boots the machine and the event file was picked, by the status.
-abbrev pub Saves : Suspend → Machine → Call → Status → Type 0
-Saves suspend machine call Done = RanSaved suspend machine call
-Saves suspend machine call (EventFault line) = RanUnsaved suspend machine call (BadLine line)
-Saves suspend machine call (StepLimit limit) = RanUnsaved suspend machine call LimitMet
-Saves suspend machine call SwapFault = IsUnwritten call
-Saves suspend machine call WriteFault = RanSavedInPart suspend machine call
-Saves suspend machine call ReadFault = RanWholeLines (silent suspend) machine call × IsUnwritten call
-Saves suspend machine call Usage = ⊥
-Saves suspend machine call NoMemory = ⊥
-Saves suspend machine call (ImageFault fault) = ⊥
+-- What was read and written where the image boots the machine and the event file was picked, by the status.
+abbrev pub Saves : Suspend → Booted → Call → Status → Type 0
+Saves suspend booted call Done = RanSaved suspend booted call
+Saves suspend booted call (EventFault line) = RanUnsaved suspend booted call (BadLine line)
+Saves suspend booted call (StepLimit limit) = RanUnsaved suspend booted call LimitMet
+Saves suspend booted call SwapFault = IsUnwritten call
+Saves suspend booted call WriteFault = RanSavedInPart suspend booted call
+Saves suspend booted call ReadFault = RanWholeLines (silent suspend) booted call × IsUnwritten call
+Saves suspend booted call Usage = ⊥
+Saves suspend booted call NoMemory = ⊥
+Saves suspend booted call (ImageFault fault) = ⊥
 
 -- ---- calls
 
@@ -83,7 +92,7 @@ pub record EndsSaved (suspend : Suspend) (call : Call) : Type 0 where
   pub image : Image call.host.files suspend.image suspend.slots machine
   pub prepared : Prepares call.store (plan_in image).slots None true
   pub cause : HasCause (silent suspend) (room_of (plan_in image)) machine call call.status
-  pub content : IsTrusted call.store (plan_in image).slots → Saves suspend machine call call.status
+  pub content : Saves suspend (booted_of (plan_in image) machine) call call.status
   -- at the end of a run both files were read to their ends
   pub image_read : call.status ≡ Done → IsTold call.host.image_left []
   pub events_read : call.status ≡ Done → IsTold call.host.left []

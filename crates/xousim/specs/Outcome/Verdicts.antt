@@ -1,8 +1,6 @@
 -- The one status of a call in which no count rose.
 use Rattle.std.specs.Prelude.{◌≡◌, ◌<◌, ◌≤◌, ◌⊎◌, ℕ, List, length, Option, Some, None}
-use Rattle.kernel_args.specs.declared.args.Args.{Args}
 use Rattle.boot_plan.specs.ImageFault.{IsImageFault}
-use Rattle.boot_plan.specs.Slots.{slots_used}
 use Rattle.boot_plan.specs.declared.plans.BootPlan.{BootPlan}
 use Rattle.machine_model.specs.State.Machine.{Machine}
 use Rattle.xk_base.specs.declared.limits.TheConstants.{IMAGE_LIMIT, SLOT_LIMIT}
@@ -12,10 +10,12 @@ use Rattle.xousim.specs.declared.status.Status.{Status}
 use Rattle.xousim.specs.declared.status.Status.TheVariants.{Done, Usage, ReadFault, WriteFault, ImageFault, EventFault, StepLimit}
 use Rattle.xousim.specs.declared.status.Status.TheVariants.{SwapFault, NoMemory}
 use Rattle.xousim.specs.Outcome.Convert.{IsConversion, long_file}
-use Rattle.xousim.specs.Outcome.Images.{Image, IsPlanned, IsSoundImage}
+use Rattle.xousim.specs.Outcome.Images.{Image, IsPlanned, plan_in}
 use Rattle.event_player.specs.History.{run_of}
-use Rattle.xousim.specs.Outcome.Resumes.{limit_from}
-use Rattle.xousim.specs.Outcome.Sides.{Call, HostRose, IsTrusted, IsUnwritten, OutRose, StoreRose, Told}
+use Rattle.event_text.specs.EventFile.{input_of}
+use Rattle.xousim.specs.Outcome.Resumes.{limit_from, resumed_on}
+use Rattle.xousim.specs.Outcome.Sides.{Call, HostRose, IsUnwritten, OutRose, StoreRose, Told}
+use Rattle.xousim.specs.Outcome.Starts.{KnowsPages, booted_of}
 use Rattle.xousim.specs.Outcome.States.{StateFile}
 use Rattle.xousim.specs.Outcome.Suspends.{silent}
 use Rattle.host_io.specs.Reading.{IsFile}
@@ -48,15 +48,16 @@ IsVerdict file play WriteFault = ⊥
 IsVerdict file play SwapFault = ⊥
 IsVerdict file play NoMemory = ⊥
 
--- whatever image it plays, the run is trusted
-abbrev pub IsTrustedPlay : Play → Call → Type 0
-IsTrustedPlay play call =
-    (image : List ℕ) (args : Args) → IsFile call.host.files play.image image → IsSoundImage image play.slots args
-    → IsTrusted call.store (slots_used args play.slots)
+-- whatever image and events it plays, what the pages of its run hold is known
+abbrev pub IsKnownPlay : Play → Call → Type 0
+IsKnownPlay play call =
+    (machine : Machine) (image : Image call.host.files play.image play.slots machine) (events : List ℕ)
+    → IsFile call.host.files play.events events
+    → KnowsPages call.store (booted_of (plan_in image) machine) play.limit (input_of events).events
 
 -- a call ends with the verdict of its files, or for want of memory with nothing written
 abbrev pub IsPlayComplete : Play → Call → Type 0
-IsPlayComplete play call = IsTrustedPlay play call → IsVerdictOr (IsVerdict call.host.files play call.status) call
+IsPlayComplete play call = IsKnownPlay play call → IsVerdictOr (IsVerdict call.host.files play call.status) call
 
 -- ---- `check`
 
@@ -123,10 +124,17 @@ IsResumeVerdict file resume WriteFault = ⊥
 IsResumeVerdict file resume SwapFault = ⊥
 IsResumeVerdict file resume NoMemory = ⊥
 
--- a call whose run is trusted ends with the verdict of its files, or for want of memory with nothing written
+-- whatever state it goes on from and whatever events it plays, what the pages of its run hold is known
+abbrev pub IsKnownResume : Resume → Call → Type 0
+IsKnownResume resume call =
+    (machine : Machine) (events : List ℕ) → StateFile call.host.files resume.state resume.slots machine
+    → IsFile call.host.files resume.events events
+    → KnowsPages call.store (resumed_on machine resume.slots) (limit_from resume.limit machine) (input_of events).events
+
+-- such a call ends with the verdict of its files, or for want of memory with nothing written
 abbrev pub IsResumeComplete : Resume → Call → Type 0
 IsResumeComplete resume call =
-    IsTrusted call.store resume.slots → IsVerdictOr (IsResumeVerdict call.host.files resume call.status) call
+    IsKnownResume resume call → IsVerdictOr (IsResumeVerdict call.host.files resume call.status) call
 
 -- ---- all commands
 

@@ -6,7 +6,7 @@ ghost use Rattle.vm_memory.specs.Memory.{size, store_of};
 ghost use Rattle.xk_base.specs.Outside.{Rose};
 ghost use Rattle.xk_kernel.specs.Sound.{IsSound, IsUsable};
 ghost use Rattle.xk_kernel.specs.State.{machine_of};
-ghost use Rattle.xk_ports.specs.Told.{Grows, GrowsByPrefix};
+ghost use Rattle.xk_ports.specs.Told.{Grows, GrowsByProperPrefix};
 ghost use Rattle.demo_load.specs.Events.{load_machine, load_plan};
 ghost use Rattle.demo_load.specs.Image.{load_image};
 ghost use Rattle.demo_load.specs.Totals.{demo_line};
@@ -79,7 +79,7 @@ fn boot_load<W: SwapStore>(alloc: Global, clients: u32, store: W) -> Result<Kern
 fn write_totals<K: Sink>(clients: u32, totals: Totals, out: &mut K) -> Status
     ensures ended { (result ≡ Done) ⊎ (result ≡ WriteFault) }
     ensures written { result ≡ Done → Grows (K.written out.old) (K.written out.new) (demo_line clients totals) }
-    ensures front { result ≡ WriteFault → GrowsByPrefix (K.written out.old) (K.written out.new) (demo_line clients totals) }
+    ensures front { result ≡ WriteFault → GrowsByProperPrefix (K.written out.old) (K.written out.new) (demo_line clients totals) }
     ensures cause { result ≡ WriteFault → Rose (K.faults out.old) (K.faults out.new) }
     ensures never_falls { K.faults out.old ≤ K.faults out.new }
 {

@@ -6,10 +6,11 @@ ghost use Rattle.vm_memory.specs.Memory.{size, store_of};
 ghost use Rattle.xk_kernel.specs.Sound.{IsSound, IsUsable, Keeps};
 ghost use Rattle.xk_kernel.specs.State.{machine_of};
 ghost use Rattle.xk_ports.specs.declared.host.FileSlot.TheVariants.{First};
-ghost use Rattle.xousim.specs.Finish.{Booted, EndsBooted, Finishes};
+ghost use Rattle.xousim.specs.Finish.{EndsBooted, Finishes};
 ghost use Rattle.event_player.specs.Gathering.{put};
 ghost use Rattle.xousim.specs.Outcome.Plays.{EndsPlay};
 ghost use Rattle.xousim.specs.Outcome.Sides.{Call, host_side, sink_side, store_side};
+ghost use Rattle.xousim.specs.Outcome.Starts.{Booted};
 ghost use Rattle.event_player.specs.Standing.{Begins, room_in, stand};
 ghost use Rattle.xousim.specs.Words.{play_in};
 

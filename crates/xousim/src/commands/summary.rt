@@ -4,7 +4,7 @@ ghost use Rattle.std.specs.Prelude.{◌≡◌, ◌+◌, ◌≤◌, ◌<◌, ◌^
 ghost use Rattle.xk_base.specs.declared.limits.TheConstants.{FRAME_LIMIT};
 ghost use Rattle.boot_plan.specs.Lawful.{IsLawfulPlan};
 ghost use Rattle.xk_base.specs.Outside.{Rose};
-ghost use Rattle.xk_ports.specs.Told.{Grows, GrowsByPrefix};
+ghost use Rattle.xk_ports.specs.Told.{Grows, GrowsByProperPrefix};
 ghost use Rattle.xousim.specs.Summary.{process_line, process_lines, ram_line, summary_of, total_line};
 
 use boot_plan::{BootPlan, ProcPlan, cap};
@@ -72,7 +72,7 @@ fn write_processes<K: Sink>(processes: &[ProcPlan], out: &mut K) -> Result<(), F
     requires few { length processes.now ≤ 64 }
     requires pages { sum_by (λ p. length p.pages) processes.now < 2 ^ 32 }
     ensures appended { OnOk result (Grows (K.written out.old) (K.written out.new) (process_lines 2 processes.now)) }
-    ensures front { OnErr result (GrowsByPrefix (K.written out.old) (K.written out.new) (process_lines 2 processes.now)) }
+    ensures front { OnErr result (GrowsByProperPrefix (K.written out.old) (K.written out.new) (process_lines 2 processes.now)) }
     ensures cause { OnErr result (Rose (K.faults out.old) (K.faults out.new)) }
     ensures never_falls { K.faults out.old ≤ K.faults out.new }
 {
@@ -88,7 +88,7 @@ fn write_processes<K: Sink>(processes: &[ProcPlan], out: &mut K) -> Result<(), F
 pub fn write_summary<K: Sink>(plan: &BootPlan, file_len: u32, out: &mut K) -> Result<(), Failed>
     requires { IsLawfulPlan file_len plan.now }
     ensures appended { OnOk result (Grows (K.written out.old) (K.written out.new) (summary_of plan.now)) }
-    ensures front { OnErr result (GrowsByPrefix (K.written out.old) (K.written out.new) (summary_of plan.now)) }
+    ensures front { OnErr result (GrowsByProperPrefix (K.written out.old) (K.written out.new) (summary_of plan.now)) }
     ensures cause { OnErr result (Rose (K.faults out.old) (K.faults out.new)) }
     ensures never_falls { K.faults out.old ≤ K.faults out.new }
 {

@@ -6,7 +6,8 @@ use Rattle.event_player.specs.Gathering.{text}
 use Rattle.event_player.specs.Playing.{Goes, HasPlayed, run_from}
 use Rattle.event_player.specs.Standing.{Stand, stand}
 use Rattle.event_player.proofs.Playing.KeptLemmas.{kept_after, kept_same}
-use Rattle.event_player.proofs.Playing.PlayingLemmas.{ends_longer, fails_longer, fed_offset, goes_err, piece_cut, piece_front, played_bytes}
+use Rattle.event_player.proofs.Playing.EndingLemmas.{ends_longer, fails_longer, fed_offset, goes_err, piece_cut, piece_front}
+use Rattle.event_player.proofs.Playing.PlayingLemmas.{played_bytes}
 use Rattle.event_player.proofs.event_file.feed_piece.Goals as goal
 
 pub returns-in_err-play_known-clause-goes : goal.returns-in_err-play_known-clause-goes

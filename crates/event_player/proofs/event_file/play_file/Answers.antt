@@ -6,15 +6,14 @@ use Rattle.xk_ports.specs.Told.{Consumes}
 use Rattle.xk_ports.specs.declared.host.FileSlot.TheVariants.{Second}
 use Rattle.event_player.specs.declared.ending.Ending.{Ending}
 use Rattle.event_player.specs.declared.ending.Ending.TheVariants.{Played}
-use Rattle.event_player.specs.declared.event_file.RunFault.{RunFault}
 use Rattle.event_player.specs.declared.events.PlayFault.{PlayFault}
 use Rattle.event_player.specs.Gathering.{put}
 use Rattle.event_player.specs.Playing.{FailsSo, Goes, HasPlayed, run_from}
 use Rattle.event_player.specs.Standing.{Stand, stand}
 use Rattle.event_player.proofs.Playing.FileLemmas.{runs_ended, runs_swapped, runs_unwritten, told_all}
 use Rattle.event_player.proofs.Playing.KeptLemmas.{kept_after, kept_same}
-use Rattle.event_player.proofs.Playing.NearLemmas.{file_near}
-use Rattle.event_player.proofs.Playing.PlayingLemmas.{played_end, played_none, whole_lines_played}
+use Rattle.event_player.proofs.Playing.EndingLemmas.{whole_lines_good, whole_lines_played}
+use Rattle.event_player.proofs.Playing.PlayingLemmas.{played_end, played_none}
 use Rattle.host_io.proofs.ToldLemmas.{Consumes-none, Consumes-append, consumed_whole, consumed_rest, nothing_left}
 use Rattle.event_player.proofs.event_file.play_file.Goals as goal
 
@@ -55,11 +54,19 @@ returns-in_default-clause-runs g c = λ start begins.
     let out = g.K.Sink.written c.pieces.out in
     let run = run_from c.args.tells c.args.limit start (put (g.K.Sink.written c.args.out.now)) in
     let now : Stand = stand g.W.SwapStore c.pieces.kernel (put out) in
-    let P : Option (List ℕ) → Type 0 = λ left. Consumes (g.H.Host.left c.args.host.now Second) left front.0 in (
-      front.0,
-      subst P (sym c.in_default.ensures.kept) front.1,
-      whole_lines_played run now (g.K.Sink.written c.args.out.now) out front.0 c.pieces.reader refl refl c.pieces.invariant.waits (front.2 start begins),
-    )
+    let P : Option (List ℕ) → Type 0 = λ left. Consumes (g.H.Host.left c.args.host.now Second) left front.0 in
+    let p : HasPlayed run front.0 c.pieces.reader now = front.2 start begins in
+    record {
+      read = front.0;
+      taken = subst P (sym c.in_default.ensures.kept) front.1;
+      may = whole_lines_good run now front.0 c.pieces.reader c.pieces.invariant.waits p;
+      exact = whole_lines_played run now (g.K.Sink.written c.args.out.now) out front.0 c.pieces.reader refl refl c.pieces.invariant.waits p;
+      silent = p.silent;
+    }
+
+ended_played : (ended : Option Ending) (ending : Ending) → ended ≡ Some ending → ending ≡ Played
+    → ◌≡◌ {A = Result (Option Ending) PlayFault} (Ok ended) (Ok (Some Played))
+ended_played ended ending is e = cc
 
 pub returns-in-Ok-Some-clause-runs : goal.returns-in-Ok-Some-clause-runs
 returns-in-Ok-Some-clause-runs g c = λ start begins.
@@ -77,28 +84,7 @@ returns-in-Ok-Some-clause-runs g c = λ start begins.
     let Q : Option Ending → Type 0 = λ o. Goes run front.0 c.finish.new.self.finished c.play_end.new.reader new (Ok o) in
     runs_ended c.args.tells c.args.limit start begun out left (g.H.Host.left c.read.new.self Second) new front.0 [] c.finish.new.self.finished (λ e. refl) told c.in-Ok-Some.ending
     (subst Q c.in-Ok-Some.field-0-is (c.in-Ok-Some.ensures.goes start (put begun) front.0 q))
-
-ended_played : (ended : Option Ending) (ending : Ending) → ended ≡ Some ending → ◌≡◌ {A = Result Ending RunFault} (Ok ending) (Ok Played)
-    → ◌≡◌ {A = Result (Option Ending) PlayFault} (Ok ended) (Ok (Some Played))
-ended_played ended ending is e = cc
-
-pub returns-in-Ok-Some-clause-near : goal.returns-in-Ok-Some-clause-near
-returns-in-Ok-Some-clause-near g c = λ start begins e.
-    let front = c.pieces.invariant.front in
-    let begun = g.K.Sink.written c.args.out.now in
-    let mid : Stand = stand g.W.SwapStore c.pieces.kernel (put (g.K.Sink.written c.pieces.out)) in
-    let new : Stand = stand g.W.SwapStore c.play_end.new.kernel (put (g.K.Sink.written c.play_end.new.out)) in
-    let run = run_from c.args.tells c.args.limit start (put begun) in
-    let P : Reader → Type 0 = λ r. HasPlayed run front.0 r mid in
-    let q : P c.finish.new.self = subst P (sym c.finish.ensures) (played_end run mid front.0 c.pieces.reader (front.2 start begins)) in
-    let left = g.H.Host.left c.args.host.now Second in
-    let told = told_all left front.0 (consumed_whole left (g.H.Host.left c.pieces.host Second) front.0 front.1
-    (nothing_left (g.H.Host.left c.pieces.host Second) c.in-Ok.count c.in-Ok.ensures.end c.if-count-eq0.true)) in
-    file_near run new left front.0 c.finish.new.self.finished told
-    (c.in-Ok-Some.ensures.near start (put begun) front.0 (ended_played _ c.in-Ok-Some.ending c.in-Ok-Some.field-0-is e) q)
-
-pub returns-in-Ok-Some-play_piece-clause-near : goal.returns-in-Ok-Some-play_piece-clause-near
-returns-in-Ok-Some-play_piece-clause-near g c = λ start begins e. absurd (c.in-Ok-Some-play_piece.ensures.unended (cc))
+    (λ e. c.in-Ok-Some.ensures.near start (put begun) front.0 (ended_played _ c.in-Ok-Some.ending c.in-Ok-Some.field-0-is e) q)
 
 pub returns-in-Err-Write-clause-runs : goal.returns-in-Err-Write-clause-runs
 returns-in-Err-Write-clause-runs g c = λ start begins.
@@ -176,6 +162,7 @@ returns-in-Ok-Some-play_piece-clause-runs g c = λ start begins.
     let Q : Option Ending → Type 0 = λ o. Goes run (front.0 ++ piece) false c.play_piece.new.reader new (Ok o) in
     runs_ended c.args.tells c.args.limit start begun out left (g.H.Host.left c.read.new.self Second) new (front.0 ++ piece) rest.0 false (λ e. cc) rest.1 c.in-Ok-Some-play_piece.ending
     (subst Q c.in-Ok-Some-play_piece.field-0-is (c.in-Ok-Some-play_piece.ensures.goes start (put begun) front.0 (front.2 start begins)))
+    (λ e. absurd (c.in-Ok-Some-play_piece.ensures.unended (ended_played _ c.in-Ok-Some-play_piece.ending c.in-Ok-Some-play_piece.field-0-is e)))
 
 pub returns-in-Ok-Some-play_piece-clause-end : goal.returns-in-Ok-Some-play_piece-clause-end
 returns-in-Ok-Some-play_piece-clause-end g c = λ e. absurd (c.in-Ok-Some-play_piece.ensures.unended (cc))

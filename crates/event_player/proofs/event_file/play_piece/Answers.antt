@@ -3,7 +3,7 @@ use Rattle.event_player.specs.declared.ending.Ending.{Ending}
 use Rattle.event_player.specs.Gathering.{text}
 use Rattle.event_player.specs.Playing.{HasPlayed, run_from}
 use Rattle.event_player.specs.Standing.{Stand, stand}
-use Rattle.event_player.proofs.Playing.PlayingLemmas.{all_of_it_put, part_of_it_put}
+use Rattle.event_player.proofs.Playing.EndingLemmas.{all_of_it_put, part_of_it_put}
 use Rattle.event_player.proofs.event_file.play_piece.Goals as goal
 
 pub returns-in-Ok-put_held-clause-goes : goal.returns-in-Ok-put_held-clause-goes

@@ -1,7 +1,7 @@
 use Rattle.std.proofs.Common.{subst}
 use Rattle.event_player.specs.declared.events.PlayFault.{PlayFault}
 use Rattle.event_player.specs.Playing.{FailsSo}
-use Rattle.event_player.proofs.Playing.PlayingLemmas.{none_of_it_put, steps_before_put, steps_before_unput}
+use Rattle.event_player.proofs.Playing.EndingLemmas.{none_of_it_put, steps_before_put, steps_before_unput}
 use Rattle.event_player.proofs.event_file.put_before.Goals as goal
 
 pub returns-in-Write-clause-fails : goal.returns-in-Write-clause-fails

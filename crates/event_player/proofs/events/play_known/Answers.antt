@@ -7,7 +7,7 @@ use Rattle.event_player.specs.declared.events.PlayFault.{PlayFault}
 use Rattle.event_player.specs.Gathering.{text}
 use Rattle.event_player.specs.Playing.{Advances, EndsSo, FailsSo, IsNearAtEnd, run_from}
 use Rattle.event_player.specs.Standing.{Stand, stand}
-use Rattle.event_player.proofs.Playing.PlayingLemmas.{goes_err}
+use Rattle.event_player.proofs.Playing.EndingLemmas.{goes_err}
 use Rattle.event_player.proofs.events.play_known.Goals as goal
 
 pub returns-in_err-play_next-clause-goes : goal.returns-in_err-play_next-clause-goes

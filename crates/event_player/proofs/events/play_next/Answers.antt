@@ -12,7 +12,8 @@ use Rattle.event_player.specs.Gathering.{text}
 use Rattle.event_player.specs.Playing.{HasPlayed, Plays, run_from}
 use Rattle.event_player.specs.Standing.{Stand, stand}
 use Rattle.event_player.proofs.Playing.NearLemmas.{near_so_far}
-use Rattle.event_player.proofs.Playing.PlayingLemmas.{advances_err, ends_bad, ends_event, ends_whole, fails_event, played_event, played_no_event}
+use Rattle.event_player.proofs.Playing.EndingLemmas.{advances_err, ends_bad, ends_event, ends_whole, fails_event}
+use Rattle.event_player.proofs.Playing.PlayingLemmas.{played_event, played_no_event}
 use Rattle.event_player.proofs.Playing.StandingLemmas.{room_stays, trust_stays}
 use Rattle.event_player.proofs.events.play_next.Goals as goal
 
@@ -54,7 +55,7 @@ returns-in_default g c = record {
       let old : Stand = stand g.W.SwapStore c.args.kernel.now (text (g.K.Sink.written c.args.out.now) c.args.held.now.items) in
       let new : Stand = stand g.W.SwapStore c.play_event.new.kernel (text (g.K.Sink.written c.play_event.new.out) c.play_event.new.held.items) in
       ends_event (run_from c.args.tells c.args.limit start begun) old new taken r c.in-Event.event c.in_ok-ending-in-Event.ending (sym c.in-Event.ensures.answer)
-      (trust_stays c.play_event.ensures.keeps) c.in_default.not-Played c.in_ok-ending-in-Event.ensures.plays p;
+      (trust_stays c.play_event.ensures.keeps) (room_stays c.play_event.ensures.keeps) c.in_default.not-Played c.in_ok-ending-in-Event.ensures.plays p;
   near = λ start begun taken e p. absurd (c.in_default.not-Played (same_ending c.in_ok-ending-in-Event.ending e));
   sound = c.play_event.ensures.sound;
   usable = c.in_ok-ending-in-Event.ensures.usable;

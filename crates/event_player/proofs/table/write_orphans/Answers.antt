@@ -1,7 +1,7 @@
 use Rattle.std.proofs.Common.{◌≡◌, ◌∙◌, ◌+◌, List, ℕ, suc, sym, ap, subst, arith}
 use Rattle.machine_model.specs.State.Machine.{Machine}
 use Rattle.xk_kernel.specs.State.{machine_of}
-use Rattle.xk_ports.specs.Told.{Grows, GrowsByPrefix}
+use Rattle.xk_ports.specs.Told.{Grows, GrowsByProperPrefix}
 use Rattle.xk_ports.proofs.ToldLemmas.{Grows-append, Grows-none}
 use Rattle.xk_base.specs.declared.ids.Place.{Place}
 use Rattle.ledger_model.specs.Places.{place_at}
@@ -23,9 +23,9 @@ returns-in_err-write_orphan-clause-front g c =
     let m : Machine = machine_of g.W.SwapStore.held c.args.kernel.now in
     let before = g.K.Sink.written c.args.out.now in
     let after = g.K.Sink.written c.write_orphan.new.out in
-    let P : List ℕ → Type 0 = λ text. GrowsByPrefix before after text in
-    let L : Place → Type 0 = λ place. GrowsByPrefix (g.K.Sink.written c.loop-number.out) after (orphan_line_in m place) in
-    let H : Here → Type 0 = λ here. GrowsByPrefix (g.K.Sink.written c.loop-number.out) after (orphan_line c.place_at-place.result here) in
+    let P : List ℕ → Type 0 = λ text. GrowsByProperPrefix before after text in
+    let L : Place → Type 0 = λ place. GrowsByProperPrefix (g.K.Sink.written c.loop-number.out) after (orphan_line_in m place) in
+    let H : Here → Type 0 = λ here. GrowsByProperPrefix (g.K.Sink.written c.loop-number.out) after (orphan_line c.place_at-place.result here) in
     let front : L (place_at c.loop-number.number) = subst L c.place_at-place.ensures (subst H c.at.ensures c.in_err-write_orphan.ensures.front) in
     let split = text_split (orphan_line_in m) (is_orphan m) (blank_orphan m) c.loop-number.number 1309696 c.loop-number-test.true in
     on_err c.from_residual.result (P (orphans_text m))

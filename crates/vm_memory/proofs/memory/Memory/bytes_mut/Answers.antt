@@ -34,6 +34,7 @@ returns g c =
         store = λ w. refl;
         usable = λ w. c.requires.usable;
         none = λ w. refl;
+        no_more = λ w. refl;
         means = λ w h. h;
       },
     )

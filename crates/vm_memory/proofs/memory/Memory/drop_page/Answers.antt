@@ -35,6 +35,7 @@ returns-in-Page g c =
         failed = refl;
         slots = λ s free. ap (λ I. I (Slot s)) c.set.ensures.infos ∙ seat_freed (infos c.args.self.now.owners) c.in-Page.seat (Slot s) free;
       };
+      seats = λ s free. ap (λ I. I s) c.set.ensures.infos ∙ seat_freed (infos c.args.self.now.owners) c.in-Page.seat s free;
     }
 
 pub returns-in-Console : goal.returns-in-Console
@@ -43,4 +44,4 @@ returns-in-Console g c =
     c.in-Console.field-0
     (console_entry (entries (processes c.args.self.now) c.args.self.now.ram c.args.at) c.in-Console.field-0 (sym c.owned.ensures ∙ c.in-Console.is))
     (record { entries = c.set_entry-in-Console.ensures.entries; pages = c.set_entry-in-Console.ensures.pages; made = c.set_entry-in-Console.ensures.made; area = c.set_entry-in-Console.ensures.area }) in
-    record { sound = step.sound; ledger = step.ledger; rest = record { size = search rules; store = refl; failed = refl; slots = λ s free. free } }
+    record { sound = step.sound; ledger = step.ledger; rest = record { size = search rules; store = refl; failed = refl; slots = λ s free. free }; seats = λ s free. free }

@@ -9,6 +9,7 @@ loop-i-init g c = record {
   sound = c.requires.sound;
   ledger = sym (remove_none c.args.first (ledger g.W.SwapStore.held c.args.self.now));
   rest = rest_same c.args.self.now;
+  seats = λ s free. free;
 }
 
 pub drop_above-requires-clause-not_lent : goal.drop_above-requires-clause-not_lent
@@ -22,4 +23,5 @@ loop-i-preserved g c = record {
   ledger = next_removed g.W.SwapStore c.args.self.now c.loop-i.self c.loop-i.invariant.sound c.loop-i.invariant.rest c.args.first c.args.n c.loop-i.i
       c.loop-i-test.true c.requires.not_lent c.loop-i.invariant.ledger c.drop_above.new.self c.drop_above.ensures.ledger;
   rest = rest_then c.args.self.now c.loop-i.self c.drop_above.new.self c.loop-i.invariant.rest c.drop_above.ensures.rest;
+  seats = λ s free. c.drop_above.ensures.seats s (c.loop-i.invariant.seats s free);
 }

@@ -1,7 +1,7 @@
 use Rattle.std.proofs.Common.{◌≡◌}
 use Rattle.ledger_model.specs.Places.{in_run}
 use Rattle.ledger_model.specs.Steps.{remove}
-use Rattle.vm_memory.specs.Pages.Changing.{ChangesPagesAlone}
+use Rattle.vm_memory.specs.Pages.Changing.{ChangesPagesAlone, TakesNoSeat}
 use Rattle.vm_memory.specs.Memory.{ledger}
 use Rattle.vm_memory.specs.Sound.{IsSound}
 use Rattle.vm_memory.proofs.memory.Memory.drop_pages.Given as goal
@@ -12,4 +12,5 @@ invariant-loop-i g l = record {
   sound : IsSound g.W.SwapStore.slot_count l.self;
   ledger : ledger g.W.SwapStore.held l.self ≡ remove (in_run l.fn.first l.i) (ledger g.W.SwapStore.held l.fn.self);
   rest : ChangesPagesAlone l.fn.self l.self;
+  seats : TakesNoSeat l.fn.self l.self;
 }

@@ -1,6 +1,9 @@
-use Rattle.std.proofs.Common.{true, arith}
+use Rattle.std.proofs.Common.{◌≡◌, ◌+◌, true, ap, ◌∙◌, arith}
+use Rattle.phys_pages.specs.Owners.{Extent}
 use Rattle.phys_pages.specs.declared.infos.Seat.TheVariants.{Slot}
-use Rattle.vm_memory.proofs.Changing.ShiftedLemmas.{brought_near, moved_in, moves_then, used_within}
+use Rattle.vm_memory.specs.Bytes.{used_slots}
+use Rattle.vm_memory.proofs.Changing.CallLemmas.{no_more_used}
+use Rattle.vm_memory.proofs.Changing.ShiftedLemmas.{brought_near, moved_in, moves_then, one_in, used_within}
 use Rattle.vm_memory.proofs.memory.Memory.exchange.Goals as goal
 
 pub bring-requires-clause-slot : goal.bring-requires-clause-slot
@@ -26,3 +29,14 @@ returns-clause-moves g c = moves_then g.W.SwapStore c.args.self.now
 pub returns-clause-near : goal.returns-clause-near
 returns-clause-near g c = brought_near c.args.self.now c.bring.new.ram c.bring.new.owners c.make_room.new.self c.args.from c.free_frame-f.result
     c.in_ok-bring.ensures.ok c.make_room.result c.make_room.ensures.keep
+
+pub returns-in_err-bring-clause-no_more : goal.returns-in_err-bring-clause-no_more
+returns-in_err-bring-clause-no_more g c = no_more_used c.args.self.now.owners c.bring.new.owners (ap (λ (t : Extent). t.slots) c.bring.ensures.sizes.extent)
+    (λ s free. ap (λ I. I (Slot s)) c.in_err-bring.ensures.err.infos ∙ free)
+
+pub returns-clause-no_more : goal.returns-clause-no_more
+returns-clause-no_more g c =
+    let less : used_slots c.args.self.now.owners ≡ used_slots c.bring.new.owners + 1 =
+    one_in c.args.self.now c.bring.new.ram c.bring.new.owners c.args.from c.free_frame-f.result c.in_ok-bring.ensures.ok
+    (ap (λ (t : Extent). t.slots) c.bring.ensures.sizes.extent) c.requires.used in
+    omega (arith, less, c.make_room.ensures.one)

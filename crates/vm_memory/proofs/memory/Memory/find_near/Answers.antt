@@ -1,4 +1,4 @@
-use Rattle.std.proofs.Common.{◌≡◌, true, false, refl, ap, sym, ◌∙◌}
+use Rattle.std.proofs.Common.{◌≡◌, true, false, refl, ap, sym, ◌∙◌, arith}
 use Rattle.sv32_space.specs.SpelledEntries.{entries}
 use Rattle.swap_map.proofs.ExchangeLemmas.{on_err}
 use Rattle.xk_base.specs.Numbers.Windows.{page_of}
@@ -10,7 +10,7 @@ use Rattle.vm_memory.proofs.Using.NearLemmas.{IsOutAt, given_may, leads_near, le
 use Rattle.vm_memory.proofs.memory.Memory.find_near.Goals as goal
 
 pub returns-then-is_given-clause-brings : goal.returns-then-is_given-clause-brings
-returns-then-is_given-clause-brings g c = record { moves = same_moves g.W.SwapStore c.args.self.now c.requires.sound; none = λ none. refl }
+returns-then-is_given-clause-brings g c = record { moves = same_moves g.W.SwapStore c.args.self.now c.requires.sound; no_more = omega arith; none = λ none. refl }
 
 pub returns-then-is_given-clause-given : goal.returns-then-is_given-clause-given
 returns-then-is_given-clause-given g c =
@@ -18,7 +18,7 @@ returns-then-is_given-clause-given g c =
     given ∙ sym (given_may (entries (processes c.args.self.now) c.args.self.now.ram (page_of c.args.pid c.args.va)) c.args.access (ap is_given_target (sym c.find-found.ensures) ∙ given))
 
 pub returns-in-None-clause-brings : goal.returns-in-None-clause-brings
-returns-in-None-clause-brings g c = record { moves = same_moves g.W.SwapStore c.args.self.now c.requires.sound; none = λ none. refl }
+returns-in-None-clause-brings g c = record { moves = same_moves g.W.SwapStore c.args.self.now c.requires.sound; no_more = omega arith; none = λ none. refl }
 
 pub returns-in-None-clause-target : goal.returns-in-None-clause-target
 returns-in-None-clause-target g c = nowhere_target c.find-found.result (sym c.is_given.ensures ∙ c.if-is_given.false) ∙ c.find-found.ensures
@@ -34,6 +34,7 @@ exchange-requires-clause-used g c = reached_used g.W.SwapStore.slot_count c.args
 pub returns-in_err-exchange-in-Some-clause-brings : goal.returns-in_err-exchange-in-Some-clause-brings
 returns-in_err-exchange-in-Some-clause-brings g c = record {
   moves = c.exchange.ensures.moves;
+  no_more = c.exchange.ensures.no_more;
   none = reached_not_none g.W.SwapStore.slot_count c.args.self.now c.requires.sound (page_of c.args.pid c.args.va) c.args.access c.in-Some.slot (sym c.slot_reached.ensures ∙ c.in-Some.is);
 }
 
@@ -44,6 +45,7 @@ returns-in_err-exchange-in-Some-clause-out g c = on_err c.from_residual.result (
 pub returns-in_ok-exchange-in-Some-clause-brings : goal.returns-in_ok-exchange-in-Some-clause-brings
 returns-in_ok-exchange-in-Some-clause-brings g c = record {
   moves = c.exchange.ensures.moves;
+  no_more = c.exchange.ensures.no_more;
   none = reached_not_none g.W.SwapStore.slot_count c.args.self.now c.requires.sound (page_of c.args.pid c.args.va) c.args.access c.in-Some.slot (sym c.slot_reached.ensures ∙ c.in-Some.is);
 }
 

@@ -36,3 +36,7 @@ returns-clause-ledger g c =
     c.drop_window-2.ensures.ledger ∙ ap (remove (in_place c.args.pid Heap)) c.drop_window.ensures.ledger)))
     ∙ all_windows (processes c.args.self.now) (ledger g.W.SwapStore.held c.args.self.now) c.args.pid
     (homes_lie g.W.SwapStore c.args.self.now c.requires.sound))
+
+pub returns-clause-seats : goal.returns-clause-seats
+returns-clause-seats g c = λ s free. c.drop_window-5.ensures.seats s (c.drop_window-4.ensures.seats s (c.drop_window-3.ensures.seats s
+    (c.drop_window-2.ensures.seats s (c.drop_window.ensures.seats s free))))

@@ -53,3 +53,13 @@ returns-in_ok-make_run-in-Ok-clause-rights g c = c.in_ok-make_run-in-Ok.ensures.
 
 pub returns-in_ok-make_run-in-Ok-clause-whole : goal.returns-in_ok-make_run-in-Ok-clause-whole
 returns-in_ok-make_run-in-Ok-clause-whole g c = c.in_ok-make_run-in-Ok.ensures.made.whole
+
+pub returns-in_err-make_run-in-Ok-clause-no_more : goal.returns-in_err-make_run-in-Ok-clause-no_more
+returns-in_err-make_run-in-Ok-clause-no_more g c =
+    let counted : c.args.self.now.pages ≡ pages (processes c.args.self.now) (ledger g.W.SwapStore.held c.args.self.now) = c.requires.sound.pages ∙ sym (pages-ledger g.W.SwapStore.held c.args.self.now) in
+    λ few. c.make_run.ensures.no_more (omega (arith, few, counted))
+
+pub returns-in_ok-make_run-in-Ok-clause-no_more : goal.returns-in_ok-make_run-in-Ok-clause-no_more
+returns-in_ok-make_run-in-Ok-clause-no_more g c =
+    let counted : c.args.self.now.pages ≡ pages (processes c.args.self.now) (ledger g.W.SwapStore.held c.args.self.now) = c.requires.sound.pages ∙ sym (pages-ledger g.W.SwapStore.held c.args.self.now) in
+    λ few. c.make_run.ensures.no_more (omega (arith, few, counted))

@@ -1,10 +1,10 @@
-use Rattle.std.proofs.Common.{false, refl, ap, sym, ◌∙◌, ◌+◌, arith}
+use Rattle.std.proofs.Common.{false, refl, ap, sym, ◌∙◌, ◌≡◌, ◌+◌, ◌≤◌, arith}
 use Rattle.std.proofs.lemmas.Bool.{false≢true}
-use Rattle.phys_pages.specs.Owners.{extent, infos}
-use Rattle.vm_memory.specs.Bytes.{is_known, none_out}
+use Rattle.phys_pages.specs.Owners.{Extent, extent, infos}
+use Rattle.vm_memory.specs.Bytes.{is_known, none_out, used_slots}
 use Rattle.vm_memory.specs.Memory.{ledger}
 use Rattle.vm_memory.proofs.Changing.CrowdedLemmas.{marked_ledger, marked_none}
-use Rattle.vm_memory.proofs.Changing.ShiftedLemmas.{all_slots, goes_out, left_free, found_room, frame_used, kept_seat, moved_in, none_all_used, over_splits, slot_left, some_room, stays_near, still_none, still_whole, unmoved}
+use Rattle.vm_memory.proofs.Changing.ShiftedLemmas.{all_slots, goes_out, left_free, found_room, frame_used, kept_seat, moved_in, none_all_used, one_out, over_splits, slot_left, some_room, some_slot_free, some_slot_within, stays_near, still_as_many, still_none, still_whole, unmoved}
 use Rattle.vm_memory.proofs.memory.Memory.make_room.Goals as goal
 
 pub unreachable-requires : goal.unreachable-requires
@@ -83,3 +83,21 @@ returns-in_err-evict-clause-keep g c = λ at side e. ap (λ E. E at) c.in_err-ev
 
 pub returns-clause-keep : goal.returns-clause-keep
 returns-clause-keep g c = stays_near c.args.self.now c.evict.new.ram c.evict.new.owners c.victim-f.result c.in-Some.to c.in_ok-evict.ensures.ok c.args.keep c.victim-f.ensures.other
+
+pub returns-in_err-evict-clause-one : goal.returns-in_err-evict-clause-one
+returns-in_err-evict-clause-one g c =
+    let same : used_slots c.evict.new.owners ≤ used_slots c.args.self.now.owners =
+    still_as_many g.W.SwapStore c.args.self.now c.requires.sound c.evict.new.ram c.evict.new.owners c.evict.new.store c.args.self.now.failed c.args.self.now.hand
+    c.in_err-evict.ensures.err c.evict.ensures.pages (ap (λ (t : Extent). t.slots) c.evict.ensures.sizes.extent) in
+    omega (arith, same)
+
+pub returns-clause-one : goal.returns-clause-one
+returns-clause-one g c =
+    let more : used_slots c.evict.new.owners ≡ used_slots c.args.self.now.owners + 1 =
+    one_out c.args.self.now c.evict.new.ram c.evict.new.owners c.victim-f.result c.in-Some.to c.in_ok-evict.ensures.ok
+    (ap (λ (t : Extent). t.slots) c.evict.ensures.sizes.extent)
+    (some_slot_within c.args.self.now.owners c.free_slot.result c.free_slot.ensures.within c.in-Some.to c.in-Some.is)
+    (some_slot_free c.args.self.now.owners c.free_slot.result c.free_slot.ensures.found c.in-Some.to c.in-Some.is)
+    (frame_used c.args.self.now.owners c.free_frame.result c.free_frame.ensures.none
+    (sym c.is_some.ensures ∙ c.if-is_some.false) c.victim-f.result c.victim-f.ensures.within) in
+    omega (arith, more)

@@ -1,7 +1,7 @@
 use Rattle.std.proofs.Common.{◌+◌, ◌<◌, sym, ◌∙◌, arith}
 use Rattle.swap_map.proofs.ExchangeLemmas.{on_err}
 use Rattle.vm_memory.specs.Memory.{frames_for_pages}
-use Rattle.vm_memory.proofs.Changing.CallLemmas.{alone-none_out, none_out-kept}
+use Rattle.vm_memory.proofs.Changing.CallLemmas.{alone-no_more, alone-none_out, none_out-kept}
 use Rattle.vm_memory.proofs.Changing.CrowdedLemmas.{near_made}
 use Rattle.vm_memory.proofs.memory.Memory.make_run.Goals as goal
 
@@ -30,3 +30,9 @@ returns-clause-full g c = on_err c.make_crowded.result (frames_for_pages c.args.
 
 pub returns-clause-near : goal.returns-clause-near
 returns-clause-near g c = λ few none. absurd (omega (arith, few, c.if-near.false, c.page_frames.ensures))
+
+pub returns-then-near-clause-no_more : goal.returns-then-near-clause-no_more
+returns-then-near-clause-no_more g c = λ few. alone-no_more c.args.self.now c.make_pages.new.self c.make_pages.ensures.rest
+
+pub returns-clause-no_more : goal.returns-clause-no_more
+returns-clause-no_more g c = λ few. absurd (omega (arith, few, c.if-near.false, c.page_frames.ensures))

@@ -30,7 +30,7 @@ returns-in-Page g c =
     (page_entry (entries (processes c.args.self.now) c.args.self.now.ram c.args.at) c.in-Page.field-0 c.in-Page.seat (sym c.owned.ensures ∙ c.in-Page.is))
     c.requires.within
     (record { entries = c.set_entry.ensures.entries; pages = c.set_entry.ensures.pages; made = c.set_entry.ensures.made; area = c.set_entry.ensures.area }) in
-    record { sound = step.sound; ledger = step.ledger; rest = record { size = search rules; store = refl; failed = refl; slots = λ s free. free } }
+    record { sound = step.sound; ledger = step.ledger; rest = record { size = search rules; store = refl; failed = refl; slots = λ s free. free }; seats = λ s free. free }
 
 pub returns-in-Console : goal.returns-in-Console
 returns-in-Console g c =
@@ -39,4 +39,4 @@ returns-in-Console g c =
     (console_entry (entries (processes c.args.self.now) c.args.self.now.ram c.args.at) c.in-Console.field-0 (sym c.owned.ensures ∙ c.in-Console.is))
     c.requires.within
     (record { entries = c.set_entry-in-Console.ensures.entries; pages = c.set_entry-in-Console.ensures.pages; made = c.set_entry-in-Console.ensures.made; area = c.set_entry-in-Console.ensures.area }) in
-    record { sound = step.sound; ledger = step.ledger; rest = record { size = search rules; store = refl; failed = refl; slots = λ s free. free } }
+    record { sound = step.sound; ledger = step.ledger; rest = record { size = search rules; store = refl; failed = refl; slots = λ s free. free }; seats = λ s free. free }

@@ -1,7 +1,8 @@
-use Rattle.std.proofs.Common.{subst, sym}
+use Rattle.std.proofs.Common.{ap, subst, sym}
 use Rattle.machine_model.proofs.Runs.KeptLemmas.{turn_keeps}
 use Rattle.machine_model.specs.Runs.Matched.{Matched}
 use Rattle.vm_memory.proofs.Changing.SoundMemoryLemmas.{sound-tied}
+use Rattle.vm_memory.specs.Memory.{store_of}
 use Rattle.xk_kernel.specs.State.{machine_of}
 use Rattle.xk_kernel.proofs.kernel.Kernel.end_turn.Goals as goal
 
@@ -15,3 +16,6 @@ returns-clause-sound g c = record {
 
 pub returns-clause-tie : goal.returns-clause-tie
 returns-clause-tie g c = sound-tied g.W.SwapStore c.turn.new.self.mem c.turn.ensures.whole.mem
+
+pub returns-clause-store : goal.returns-clause-store
+returns-clause-store g c = ap (λ mem. store_of mem) c.turn.ensures.mem

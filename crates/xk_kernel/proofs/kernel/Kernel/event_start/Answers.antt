@@ -1,7 +1,8 @@
 -- The event does what the machine makes of it.
-use Rattle.std.proofs.Common.{None, sym, subst, ◌∙◌}
+use Rattle.std.proofs.Common.{None, sym, ap, subst, ◌∙◌}
 use Rattle.machine_model.specs.Stepping.Events.{killed, nothing, picked, raised}
 use Rattle.vm_memory.proofs.Changing.SoundMemoryLemmas.{sound-tied}
+use Rattle.vm_memory.specs.Memory.{store_of}
 use Rattle.xk_kernel.specs.State.{machine_of}
 use Rattle.xk_kernel.specs.Stepping.{Becomes, event_done}
 use Rattle.xk_kernel.proofs.Ending.EventLemmas.{became_sound, dying_matched, irq_matched, kill_matched, killed_done, left_matched, lives, logged_whole, nothing_done, pick_matched, picked_done, spared_done, unreserved_whole}
@@ -38,6 +39,9 @@ returns-in-Pick-clause-does g c =
 pub returns-in-Pick-clause-tie : goal.returns-in-Pick-clause-tie
 returns-in-Pick-clause-tie g c = sound-tied g.W.SwapStore c.pick.new.self.mem c.pick.ensures.whole.mem
 
+pub returns-in-Pick-clause-store : goal.returns-in-Pick-clause-store
+returns-in-Pick-clause-store g c = ap (λ mem. store_of mem) c.pick.ensures.mem
+
 -- ---- irq
 
 pub raise-requires-clause-whole : goal.raise-requires-clause-whole
@@ -62,6 +66,9 @@ returns-in-Irq-clause-does g c =
 
 pub returns-in-Irq-clause-tie : goal.returns-in-Irq-clause-tie
 returns-in-Irq-clause-tie g c = sound-tied g.W.SwapStore c.raise.new.self.mem c.raise.ensures.whole.mem
+
+pub returns-in-Irq-clause-store : goal.returns-in-Irq-clause-store
+returns-in-Irq-clause-store g c = ap (λ mem. store_of mem) c.raise.ensures.mem
 
 -- ---- kill
 
@@ -96,6 +103,9 @@ returns-then-alive-clause-does g c =
 
 pub returns-then-alive-clause-tie : goal.returns-then-alive-clause-tie
 returns-then-alive-clause-tie g c = sound-tied g.W.SwapStore c.kill.new.self.mem c.kill.ensures.whole.mem
+
+pub returns-then-alive-clause-store : goal.returns-then-alive-clause-store
+returns-then-alive-clause-store g c = c.kill.ensures.store
 
 -- one that doesn't
 

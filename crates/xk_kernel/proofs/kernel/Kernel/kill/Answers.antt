@@ -44,3 +44,6 @@ returns-clause-keeps g c =
     let keeps = dead_keeps g.W.SwapStore c.args.self.now c.requires.whole c.args.pid new
     c.kill.ensures.death c.kill.ensures.sound.0 c.kill.ensures.sound.1 c.kill.ensures.mem c.end_claim.new.timer disarmed in
     record { size = keeps.size; store = keeps.store; room = ap (λ log. log.room) c.push.ensures ∙ keeps.room }
+
+pub returns-clause-store : goal.returns-clause-store
+returns-clause-store g c = c.kill.ensures.mem.store

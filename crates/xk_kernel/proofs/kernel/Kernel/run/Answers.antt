@@ -1,10 +1,12 @@
 -- What running the instruction of a thread leaves: over known bytes what the machine performs, and over any bytes a matched machine.
 use Rattle.std.proofs.Common.{◌≡◌, ℕ, ◌%◌, true, false, Option, Some, refl, sym, ap, subst, ◌∙◌}
 use Rattle.machine_model.specs.Runs.Matched.{Matched}
+use Rattle.machine_model.specs.State.Machine.{Thread as ModelThread}
 use Rattle.machine_model.specs.State.Order.{ready_at}
 use Rattle.machine_model.specs.Stepping.Reservations.{reserved_by}
 use Rattle.machine_model.specs.Stepping.Step.{performed}
 use Rattle.machine_model.specs.State.Threads.{put_thread}
+use Rattle.rv32_atomics.specs.Performing.{Core}
 use Rattle.rv32_hart.specs.Running.{IfFailed, UnlessFailed, ran_of}
 use Rattle.thread_table.specs.Lending.{with_thread}
 use Rattle.thread_table.specs.declared.thread.Thread.{Thread}
@@ -12,7 +14,7 @@ use Rattle.vm_memory.proofs.Using.UserKeepLemmas.{rest_same}
 use Rattle.vm_memory.specs.Bytes.{MeansBytesOver, none_out}
 use Rattle.vm_memory.specs.Memory.{IsUsable, has_failed, store_of}
 use Rattle.xk_base.specs.Outside.{Rose}
-use Rattle.xk_kernel.specs.Running.{machine_after}
+use Rattle.xk_kernel.specs.Running.{RunsSome, machine_after}
 use Rattle.xk_kernel.specs.Sound.{IsWhole, Keeps}
 use Rattle.xk_parts.specs.Shown.{thread_of}
 use Rattle.xk_kernel.specs.State.{machine_of}
@@ -20,6 +22,7 @@ use Rattle.xk_kernel.proofs.Acting.ThreadLemmas.{in_table, machine_put, put_same
 use Rattle.xk_kernel.proofs.Memory.MemoryPartLemmas.{keeps_with, with_memory}
 use Rattle.xk_kernel.proofs.Running.RanLemmas.{goes_aligned, has_failed_now, ran_matched, ran_ready, unless_failed, usable_unless, was_out}
 use Rattle.xk_kernel.proofs.Running.RunLemmas.{HasRun, given_back, has_run, machine_goes_on, machine_stays, of_thread, registers_stay, whole_lent, whole_ran, with_both}
+use Rattle.xk_kernel.proofs.Running.SomeLemmas.{HasRunSome, some_goes_on, some_run, some_stays}
 use Rattle.xk_kernel.proofs.kernel.Kernel.run.Goals as goal
 
 -- src/kernel/running.rt
@@ -153,6 +156,33 @@ returns-in-Ecall-clause-reserved g c =
     of_thread ((machine_of g.W.SwapStore.held c.args.self.now).threads c.args.who) (thread_of c.thread_mut-thread.result.now) (thread_found g.W.SwapStore.held c.args.self.now c.args.who c.thread_mut-thread.result.now c.thread_mut-thread.ensures.value)
     (λ t. c.run_over-user.new.reserved ≡ (performed (machine_of g.W.SwapStore.held c.args.self.now) c.args.who t).reserved)
     (run.reserved))
+
+pub returns-in-Ecall-clause-some : goal.returns-in-Ecall-clause-some
+returns-in-Ecall-clause-some g c =
+    let held = g.W.SwapStore.held in
+    let old = c.args.self.now in
+    let who = c.args.who in
+    let mem = c.run_over-user.result.mem.now in
+    let timer = c.run_over-user.new.timer in
+    let t : ModelThread = thread_of c.thread_mut-thread.result.now in
+    let found = thread_found held old who c.thread_mut-thread.result.now c.thread_mut-thread.ensures.value in
+    let new : Core = record { regs = c.run_over-user.new.thread.regs; reserved = c.run_over-user.new.reserved } in
+    let back : c.self-1.given.0 ≡ mem = given_back _ _ _ c.self-1.given c.run_over-user.ensures.rest.0 in
+    unless_failed c.run_over-user.new.ran _ (λ done.
+    let run : HasRunSome held old mem timer who.pid (record { regs = t.regs; reserved = reserved_by who (machine_of held old).reserved }) new t.pc c.run_over-user.new.ran =
+    some_run g.W.SwapStore old mem who.pid c.run_over-user.result.pid c.run_over-user.ensures.rest.2 c.has_timer-on.result timer c.has_timer-on.ensures c.run_over-user.ensures.timer c.requires.matched
+    (record { regs = t.regs; reserved = c.args.reserved.now }) new (record { regs = t.regs; reserved = reserved_by who (machine_of held old).reserved }) t.pc c.run_over-user.new.ran
+    (ap (λ (reserved : Option ℕ). record { regs = t.regs; reserved = reserved }) c.requires.reserved) c.run_over-user.ensures.performs done in
+    of_thread ((machine_of held old).threads who) t found
+    (λ u. RunsSome (machine_of held old) (machine_of held (record (with_both c.self-1.given.0 timer old) { threads = with_thread old.threads who c.run_over-user.new.thread })) who u new.reserved c.run_over-user.new.ran)
+    (some_stays held old mem timer who t new c.run_over-user.new.ran run
+    (machine_of held (record (with_both c.self-1.given.0 timer old) { threads = with_thread old.threads who c.run_over-user.new.thread }))
+    ((λ i. machine_of held (record (with_both (back i) timer old) { threads = with_thread old.threads who (c.run_over-user.ensures.thread i) }))
+    ∙ machine_put held (with_both mem timer old) _ who _ (c.thread_mut-thread.ensures.writes _)
+    ∙ ap (λ regs. put_thread who (Some (record t { regs = regs })) (machine_of held (with_both mem timer old)))
+    (registers_stay c.run_over-user.new.ran t.regs c.run_over-user.new.thread.regs c.in-Ecall.is c.run_over-user.ensures.leaves)
+    ∙ put_same (machine_of held (with_both mem timer old)) who t (thread_found held (with_both mem timer old) who c.thread_mut-thread.result.now c.thread_mut-thread.ensures.value))
+    c.in-Ecall.is))
 
 pub returns-in-Ecall-clause-matched : goal.returns-in-Ecall-clause-matched
 returns-in-Ecall-clause-matched g c =
@@ -312,6 +342,33 @@ returns-in-Next-clause-reserved g c =
     of_thread ((machine_of g.W.SwapStore.held c.args.self.now).threads c.args.who) (thread_of c.thread_mut-thread.result.now) (thread_found g.W.SwapStore.held c.args.self.now c.args.who c.thread_mut-thread.result.now c.thread_mut-thread.ensures.value)
     (λ t. c.run_over-user.new.reserved ≡ (performed (machine_of g.W.SwapStore.held c.args.self.now) c.args.who t).reserved)
     (run.reserved))
+
+pub returns-in-Next-clause-some : goal.returns-in-Next-clause-some
+returns-in-Next-clause-some g c =
+    let held = g.W.SwapStore.held in
+    let old = c.args.self.now in
+    let who = c.args.who in
+    let mem = c.run_over-user.result.mem.now in
+    let timer = c.run_over-user.new.timer in
+    let t : ModelThread = thread_of c.thread_mut-thread.result.now in
+    let found = thread_found held old who c.thread_mut-thread.result.now c.thread_mut-thread.ensures.value in
+    let new : Core = record { regs = c.run_over-user.new.thread.regs; reserved = c.run_over-user.new.reserved } in
+    let back : c.self-1.given.0 ≡ mem = given_back _ _ _ c.self-1.given c.run_over-user.ensures.rest.0 in
+    unless_failed c.in-Next.ran _ (λ done.
+    let run : HasRunSome held old mem timer who.pid (record { regs = t.regs; reserved = reserved_by who (machine_of held old).reserved }) new t.pc c.run_over-user.new.ran =
+    some_run g.W.SwapStore old mem who.pid c.run_over-user.result.pid c.run_over-user.ensures.rest.2 c.has_timer-on.result timer c.has_timer-on.ensures c.run_over-user.ensures.timer c.requires.matched
+    (record { regs = t.regs; reserved = c.args.reserved.now }) new (record { regs = t.regs; reserved = reserved_by who (machine_of held old).reserved }) t.pc c.run_over-user.new.ran
+    (ap (λ (reserved : Option ℕ). record { regs = t.regs; reserved = reserved }) c.requires.reserved) c.run_over-user.ensures.performs (λ e. done (c.in-Next.ran-is ∙ e)) in
+    of_thread ((machine_of held old).threads who) t found
+    (λ u. RunsSome (machine_of held old)
+    (machine_of held (record (with_both c.self-1.given.0 timer old) { threads = with_thread old.threads who (record { pc = c.in-Next.next; regs = c.run_over-user.new.thread.regs; state = c.run_over-user.new.thread.state }) })) who u new.reserved c.in-Next.ran)
+    (subst (λ a. RunsSome (machine_of held old)
+    (machine_of held (record (with_both c.self-1.given.0 timer old) { threads = with_thread old.threads who (record { pc = c.in-Next.next; regs = c.run_over-user.new.thread.regs; state = c.run_over-user.new.thread.state }) })) who t new.reserved a) (sym c.in-Next.ran-is)
+    (some_goes_on held old mem timer who t new c.run_over-user.new.ran run
+    (machine_of held (record (with_both c.self-1.given.0 timer old) { threads = with_thread old.threads who (record { pc = c.in-Next.next; regs = c.run_over-user.new.thread.regs; state = c.run_over-user.new.thread.state }) })) c.in-Next.next
+    ((λ i. machine_of held (record (with_both (back i) timer old) { threads = with_thread old.threads who (record { pc = c.in-Next.next; regs = c.run_over-user.new.thread.regs; state = (ap (λ (thread : Thread). thread.state) c.run_over-user.ensures.thread) i }) }))
+    ∙ machine_put held (with_both mem timer old) _ who _ (c.thread_mut-thread.ensures.writes _))
+    found c.in-Next.is)))
 
 pub returns-in-Next-clause-matched : goal.returns-in-Next-clause-matched
 returns-in-Next-clause-matched g c =

@@ -7,6 +7,7 @@ use Rattle.vm_memory.specs.Bytes.{MeansBytesOver}
 use Rattle.vm_memory.specs.Tie.{IsTied}
 use Rattle.xk_kernel.specs.Quiet.{RunsQuietly, is_quiet}
 use Rattle.xk_kernel.specs.State.{machine_of}
+use Rattle.xk_kernel.specs.Stepping.{last_of}
 use Rattle.xk_kernel.proofs.Acting.SettlesLemmas.{on_failure}
 use Rattle.xk_kernel.proofs.Acting.StepOfLemmas.{failed_sound}
 use Rattle.xk_kernel.proofs.Memory.KnownLemmas.{means_ends}
@@ -91,6 +92,9 @@ returns-then-done-eq0-clause-runs g c known =
     (hand_in g.W.SwapStore.held c.args.self.now.cursor c.quiet_steps.new.self
     (record { thread = c.quiet_steps.new.thread; reserved = c.quiet_steps.new.reserved }) (c.args.self.now.steps + n))) c.if-done-eq0.true
     (c.in_ok-done.ensures.runs (means_ends g.W.SwapStore c.args.self.now.mem c.quiet_steps.new.self.mem c.quiet_steps.ensures.rest.store known).0))
+
+pub returns-then-done-eq0-clause-stays : goal.returns-then-done-eq0-clause-stays
+returns-then-done-eq0-clause-stays g c none = ap (λ k. last_of k) c.quiet_steps.ensures.same
 
 -- ---- some were
 

@@ -1,6 +1,6 @@
 use Rattle.std.proofs.Common.{◌≡◌, ◌∙◌, ◌+◌, List, ℕ, suc, take, drop, get_or, sym, ap, subst, arith}
 use Rattle.boot_plan.specs.declared.plans.ProcPlan.{ProcPlan}
-use Rattle.xk_ports.specs.Told.{Grows, GrowsByPrefix}
+use Rattle.xk_ports.specs.Told.{Grows, GrowsByProperPrefix}
 use Rattle.xk_ports.proofs.ToldLemmas.{Grows-append}
 use Rattle.xousim.specs.Summary.{process_line, process_lines}
 use Rattle.xousim.proofs.Output.SummaryLemmas.{lines_next, lines_split}
@@ -16,8 +16,8 @@ returns-in_err-put_all-clause-front g c =
     let before = g.K.Sink.written c.args.out.now in
     let mid = g.K.Sink.written c.loop-process.out in
     let after = g.K.Sink.written c.put_all.new.out in
-    let T : List ℕ → Type 0 = λ text. GrowsByPrefix mid after text in
-    let P : List ℕ → Type 0 = λ text. GrowsByPrefix before after text in
+    let T : List ℕ → Type 0 = λ text. GrowsByProperPrefix mid after text in
+    let P : List ℕ → Type 0 = λ text. GrowsByProperPrefix before after text in
     let front : T (process_line pid (get_or ps i p)) =
     subst T (c.as_slice.ensures.value ∙ c.process_line.ensures ∙ ap (process_line pid) c.process-item.is) c.in_err-put_all.ensures.front in
     on_err c.from_residual.result (P (process_lines 2 ps))

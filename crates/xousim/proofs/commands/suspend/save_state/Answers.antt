@@ -4,7 +4,7 @@ use Rattle.suspend_image.specs.Saveable.{IsSaveable}
 use Rattle.suspend_image.specs.Sheets.{SheetBytes}
 use Rattle.suspend_image.specs.StateBytes.{saved_bytes}
 use Rattle.xk_kernel.specs.State.{machine_of}
-use Rattle.xk_ports.specs.Told.{Grows, GrowsByPrefix}
+use Rattle.xk_ports.specs.Told.{Grows, GrowsByProperPrefix}
 use Rattle.machine_history.specs.Reserved.{IsReservedByThread}
 use Rattle.xousim.proofs.commands.suspend.save_state.Goals as goal
 
@@ -33,5 +33,5 @@ returns-in-Err-clause-saved g c = λ means known.
     let same : new ≡ old = c.save.ensures.machine.whole means in
     let bytes : c.as_slice.result.now ≡ saved_bytes old =
     c.as_slice.ensures ∙ ap (λ (sheet : SheetBytes). sheet.bytes) (c.in-Ok.ensures.saved means) ∙ ap saved_bytes same in
-    let G : List ℕ → Type 0 = λ b. GrowsByPrefix (g.K.Sink.written c.args.out.now) (g.K.Sink.written c.put_all.new.out) b in
+    let G : List ℕ → Type 0 = λ b. GrowsByProperPrefix (g.K.Sink.written c.args.out.now) (g.K.Sink.written c.put_all.new.out) b in
     subst G bytes c.in-Err.ensures.front
