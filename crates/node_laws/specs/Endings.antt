@@ -7,11 +7,10 @@ use Rattle.xk_base.specs.declared.ids.Pid.{Pid}
 use Rattle.xk_base.specs.declared.ids.Sid.{Sid}
 use Rattle.xk_base.specs.declared.ids.ThreadId.{ThreadId}
 use Rattle.xk_base.specs.declared.ids.Tid.{Tid}
-use Rattle.xk_base.specs.declared.messages.Message.{Message}
 use Rattle.xk_base.specs.Tables.Circle.{listed_ids}
 use Rattle.xk_base.specs.Tables.Counting.{least_below, listed_below}
 use Rattle.machine_model.specs.Messaging.Messages.{is_of_number}
-use Rattle.machine_model.specs.State.Machine.{Idle, Joining, Machine, Ready, Receiving, Server, Thread, ThreadState, Waiting}
+use Rattle.machine_model.specs.State.Machine.{Idle, Joining, Machine, Ready, Receiving, Server, ThreadState, Waiting}
 use Rattle.machine_model.specs.State.Order.{ready_at}
 use Rattle.node_laws.specs.Moves.{Asked, Point, is_at_bound}
 use Rattle.node_laws.specs.Nodes.{node_of}

@@ -1,6 +1,6 @@
 -- Moves of an order: a slice of a Ready thread, or an event that may come once. What they make of a state with what came before it,
 -- and the events that play them.
-use Rattle.std.specs.Prelude.{◌≡◌, ℕ, ◌-◌, ◌==◌, ◌&&◌, min, nat_eq, nat_lt, Bool, true, false, not, List, [], ◌∷◌, ◌++◌, slice_get, if◌then◌else◌, Option, Some, None}
+use Rattle.std.specs.Prelude.{ℕ, ◌-◌, ◌==◌, ◌&&◌, min, nat_eq, nat_lt, Bool, true, false, not, List, [], ◌∷◌, ◌++◌, slice_get, if◌then◌else◌, Option, Some, None}
 use Rattle.std.specs.List.{flat_map}
 use Rattle.std.specs.Option.{option_and_then, option_map, option_map_or}
 use Rattle.xk_base.specs.declared.events.Event.{Event}
@@ -11,7 +11,7 @@ use Rattle.xk_base.specs.declared.records.What.{What}
 use Rattle.xk_base.specs.declared.records.What.TheVariants.{Byte, Call, End, Fault, Gone, Irq, Reply, Retry}
 use Rattle.xk_base.specs.Tables.Counting.{put_at}
 use Rattle.machine_model.specs.State.Machine.{Machine}
-use Rattle.machine_model.specs.State.Order.{ready_at, turn}
+use Rattle.machine_model.specs.State.Order.{ready_at}
 use Rattle.machine_model.specs.Stepping.Events.{killed, raised}
 use Rattle.machine_model.specs.Stepping.Step.{Recorded}
 use Rattle.order_laws.specs.Slices.{Slice as SliceOf, slice, turned}

@@ -1,14 +1,12 @@
 -- Nodes of a search of orders. A node is what of a point its later moves depend on: the state without its cursor, as each slice begins
 -- with a pick, and without its count of steps where the orders have no bound, as nobody reads it until the timer's interrupt is claimed.
-use Rattle.std.specs.Prelude.{◌≡◌, ℕ, Bool, true, false, is_some, List, [], ◌∷◌, map, Option, Some, None, if◌then◌else◌}
+use Rattle.std.specs.Prelude.{◌≡◌, Bool, true, false, is_some, Option, None, if◌then◌else◌}
 use Rattle.std.specs.Option.{option_map}
-use Rattle.xk_base.specs.declared.ids.ThreadId.{ThreadId}
 use Rattle.xk_base.specs.declared.limits.TheConstants.{TIMER_INTERRUPT}
 use Rattle.xk_base.specs.Tables.Circle.{id_at}
 use Rattle.machine_model.specs.Runs.Matched.{Matched}
 use Rattle.machine_model.specs.State.Machine.{Machine}
 use Rattle.node_laws.specs.declared.moves.Move.{Move}
-use Rattle.node_laws.specs.Counts.{IsUncounted}
 use Rattle.node_laws.specs.Moves.{Asked, Bound, Point, Unbounded, UpTo, leads}
 
 -- the state without what a node leaves out of it

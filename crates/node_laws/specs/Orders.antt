@@ -1,5 +1,5 @@
 -- Orders of moves: their events play them, and the search of nodes goes through each of them.
-use Rattle.std.specs.Prelude.{◌≡◌, ◌≤◌, ℕ, ◌++◌, true, false, List, [], ◌∷◌, Option, Some}
+use Rattle.std.specs.Prelude.{◌≡◌, ◌≤◌, ℕ, ◌++◌, true, false, List, [], ◌∷◌, Some}
 use Rattle.std.specs.Bool.{⊤}
 use Rattle.std.specs.Option.{option_map}
 use Rattle.xk_base.specs.declared.records.Rec.{Rec}

@@ -1,5 +1,5 @@
 -- What a search of nodes says of orders: what it tells is so, and where it is whole each order is among what it tells.
-use Rattle.std.specs.Prelude.{◌≡◌, ◌≤◌, ◌+◌, ℕ, Bool, true, false, List, length, slice_get, Option, Some}
+use Rattle.std.specs.Prelude.{◌≡◌, ◌≤◌, ◌+◌, ℕ, Bool, true, false, List, length, slice_get, Some}
 use Rattle.machine_model.specs.Runs.Matched.{Matched}
 use Rattle.state_search.specs.declared.found.Edge.{Edge}
 use Rattle.state_search.specs.Graph.{node_by}

@@ -4,7 +4,6 @@ use Rattle.std.specs.Prelude.{◌&&◌, ◌||◌, ◌%◌, is_some, not, if◌th
 use Rattle.std.specs.Option.{option_map_or}
 use Rattle.xk_base.specs.declared.ids.Pid.{Pid}
 use Rattle.xk_base.specs.declared.ids.ThreadId.{ThreadId}
-use Rattle.xk_base.specs.declared.limits.TheConstants.{TIMER_INTERRUPT}
 use Rattle.xk_base.specs.declared.records.What.TheVariants.{Call, End, Fault}
 use Rattle.xk_base.specs.Calls.Registers.{arguments_of, reg_at}
 use Rattle.xk_base.specs.UserMemory.{Memory, Timer, timer_at}
@@ -16,12 +15,12 @@ use Rattle.machine_model.specs.Hart.Atomics.{Performed, execute_at}
 use Rattle.machine_model.specs.Hart.Instructions.{Executed, Next, Stores, StoresToConsole, StoresToTimer, CallsKernel, Traps}
 use Rattle.machine_model.specs.State.Changes.{Change, Told, call_settled, settled}
 use Rattle.machine_model.specs.State.Machine.{Claim, Idle, Machine, Reservation, Thread}
-use Rattle.machine_model.specs.State.Threads.{Answers, both_answers, change_thread, put_thread, thread_id, with_state}
+use Rattle.machine_model.specs.State.Threads.{both_answers, change_thread, put_thread, thread_id, with_state}
 use Rattle.machine_model.specs.State.Views.{contents_seen, is_of_timer_page, memory_of, page_reached, stored, timer_of, timer_set}
 use Rattle.machine_model.specs.Ending.Ends.{joiners_answered}
 use Rattle.machine_model.specs.Stepping.Interrupts.{delivered, delivered_lowest, handler_started, is_claim_of, is_free_for_interrupt, lowest_pending}
 use Rattle.machine_model.specs.Stepping.Reservations.{reservation_of, reserved_by}
-use Rattle.machine_model.specs.Stepping.Step.{acted, acted_if_there, after, ends_handler, ends_thread, executed, performed, reservation_left_if_there}
+use Rattle.machine_model.specs.Stepping.Step.{acted_if_there, after, ends_handler, ends_thread, executed, performed, reservation_left_if_there}
 use Rattle.node_laws.specs.Counts.{IsUncounted, with_count}
 use Rattle.node_laws.proofs.Counting.EffectLemmas.{call_settled_with, call_with, change_with, settled_with, told_with}
 

@@ -1,5 +1,5 @@
 -- A slice forgets the count of steps, where nobody has claimed the timer's interrupt.
-use Rattle.std.proofs.Common.{◌≡◌, ℕ, zero, suc, ◌+◌, Bool, true, false, List, [], ◌∷◌, map, Option, Some, None, is_some, refl, sym, ap, ◌∙◌, arith, subst}
+use Rattle.std.proofs.Common.{◌≡◌, ℕ, zero, suc, ◌+◌, Bool, true, false, List, [], ◌∷◌, map, Option, Some, None, is_some, refl, sym, ap, ◌∙◌, arith}
 use Rattle.std.specs.Prelude.{if◌then◌else◌}
 use Rattle.std.proofs.lemmas.Bool.{false≢true}
 use Rattle.xk_base.specs.declared.ids.ThreadId.{ThreadId}
@@ -11,16 +11,15 @@ use Rattle.machine_model.specs.Runs.Matched.{Matched}
 use Rattle.machine_model.specs.Runs.Moments.{ByPick}
 use Rattle.machine_model.specs.State.Changes.{Told}
 use Rattle.machine_model.specs.State.Machine.{Claim, Machine, Thread}
-use Rattle.machine_model.specs.State.Order.{actor, next_ready, ready_at}
+use Rattle.machine_model.specs.State.Order.{actor}
 use Rattle.machine_model.specs.State.Views.{stored, timer_set}
 use Rattle.machine_model.specs.Stepping.Events.{picked}
-use Rattle.machine_model.specs.Stepping.Step.{Recorded, acted, acted_if_there, counted, ends_handler, ends_thread, executed, performed, record_of, step, step_by}
-use Rattle.machine_model.specs.Stepping.Timer.{timed}
+use Rattle.machine_model.specs.Stepping.Step.{Recorded, acted_if_there, counted, ends_handler, ends_thread, executed, performed, record_of, step, step_by}
 use Rattle.machine_model.proofs.Runs.TimerLemmas.{timed_unarmed}
 use Rattle.machine_laws.proofs.Stepping.EveryStepLemmas.{every_cause_keeps, every_step_keeps}
 use Rattle.machine_laws.proofs.Threading.ThreadStepLemmas.{then_acted, turned_to}
 use Rattle.order_laws.specs.Slices.{Slice, last_or, no_step, slice, steps_up_to}
-use Rattle.node_laws.specs.Counts.{IsUncounted, SliceForgetsCount, numbered, recorded_as, slice_from, with_count}
+use Rattle.node_laws.specs.Counts.{IsUncounted, SliceForgetsCount, numbered, slice_from, with_count}
 use Rattle.node_laws.proofs.Counting.StepLemmas.{actor_with, left_unarmed, step_forgets, step_of}
 
 -- ---- a step of which nothing is told leaves the claims

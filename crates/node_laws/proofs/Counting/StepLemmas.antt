@@ -1,7 +1,6 @@
 -- A step forgets the count of steps, where nobody has claimed the timer's interrupt.
-use Rattle.std.proofs.Common.{◌≡◌, ℕ, ◌+◌, Bool, true, false, List, [], ◌∷◌, map, Option, Some, None, is_some, refl, sym, ap, ◌∙◌}
+use Rattle.std.proofs.Common.{◌≡◌, ℕ, ◌+◌, true, false, List, map, Option, Some, None, is_some, refl, sym, ap, ◌∙◌}
 use Rattle.std.proofs.lemmas.Bool.{false≢true}
-use Rattle.std.proofs.lemmas.Option.{none-some}
 use Rattle.std.proofs.lemmas.Simd.{map-map}
 use Rattle.xk_base.specs.declared.ids.ThreadId.{ThreadId}
 use Rattle.xk_base.specs.declared.limits.TheConstants.{TIMER_INTERRUPT}
@@ -10,14 +9,14 @@ use Rattle.std.specs.Option.{option_map_or}
 use Rattle.machine_model.specs.Runs.Matched.{Matched}
 use Rattle.machine_model.specs.Runs.Moments.{ByStep}
 use Rattle.machine_model.specs.State.Changes.{Told}
-use Rattle.machine_model.specs.State.Machine.{Claim, Machine, Thread}
+use Rattle.machine_model.specs.State.Machine.{Claim, Machine}
 use Rattle.machine_model.specs.State.Order.{actor, next_ready}
 use Rattle.machine_model.specs.Stepping.Interrupts.{is_claim_of}
-use Rattle.machine_model.specs.Stepping.Step.{Recorded, acted_if_there, counted, record_of, step, step_by, step_by_if}
+use Rattle.machine_model.specs.Stepping.Step.{acted_if_there, counted, record_of, step, step_by, step_by_if}
 use Rattle.machine_model.specs.Stepping.Timer.{timed}
 use Rattle.machine_model.proofs.Runs.TimerLemmas.{timed_unarmed}
 use Rattle.machine_laws.proofs.Threading.ThreadStepLemmas.{turned_to}
-use Rattle.timer_laws.specs.Arming.{Arms, TimerStore, timer_store}
+use Rattle.timer_laws.specs.Arming.{TimerStore, timer_store}
 use Rattle.timer_laws.specs.Raising.{other_effects, other_effects_of}
 use Rattle.timer_laws.proofs.Runs.ClaimantLemmas.{only_claimant_stores}
 use Rattle.timer_laws.proofs.Runs.MomentLemmas.{Armed, Disarmed, Left, Touch, touch_of}

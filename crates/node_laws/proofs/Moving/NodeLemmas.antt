@@ -12,7 +12,7 @@ use Rattle.xk_base.specs.declared.limits.TheConstants.{TIMER_INTERRUPT}
 use Rattle.xk_base.specs.Tables.Circle.{id_at}
 use Rattle.machine_model.specs.Runs.Matched.{Matched}
 use Rattle.machine_model.specs.State.Machine.{Claim, Machine}
-use Rattle.machine_model.specs.State.Order.{next_ready, ready_at, turn}
+use Rattle.machine_model.specs.State.Order.{ready_at, turn}
 use Rattle.machine_model.specs.Stepping.Events.{killed, raised}
 use Rattle.machine_model.specs.Stepping.Step.{Recorded}
 use Rattle.machine_history.proofs.Histories.LimitLemmas.{irq_steps, kill_steps}
@@ -21,7 +21,7 @@ use Rattle.order_laws.proofs.SliceLemmas.{slice_from_any_turn}
 use Rattle.node_laws.specs.declared.moves.Move.{Move}
 use Rattle.node_laws.specs.declared.moves.Move.TheVariants.{Once, Slice}
 use Rattle.node_laws.specs.Counts.{IsUncounted, slice_from, with_count}
-use Rattle.node_laws.specs.Moves.{Asked, Bound, Point, Unbounded, UpTo, behind, bytes_of, leads, may_come, most_within, what_comes, with_come}
+use Rattle.node_laws.specs.Moves.{Asked, Bound, Point, Unbounded, UpTo, behind, leads, may_come, most_within, what_comes, with_come}
 use Rattle.node_laws.specs.Nodes.{NodesLeadAlike, after, goes_on, node_of, set_aside}
 use Rattle.node_laws.proofs.Counting.SliceLemmas.{slice_forgets}
 use Rattle.node_laws.proofs.Moving.EventLemmas.{IsAside, bytes_numbered, killed_aside, raised_aside}

@@ -1,6 +1,6 @@
 -- Each order is a path of nodes.
-use Rattle.std.proofs.Common.{◌≡◌, ℕ, zero, suc, Bool, true, false, List, [], ◌∷◌, Option, Some, None, is_some, refl, sym, ap, ◌∙◌, subst}
-use Rattle.std.specs.Prelude.{slice_get, if◌then◌else◌}
+use Rattle.std.proofs.Common.{◌≡◌, ℕ, zero, suc, Bool, true, false, List, [], ◌∷◌, Option, Some, None, is_some, refl, ap, ◌∙◌, subst}
+use Rattle.std.specs.Prelude.{if◌then◌else◌}
 use Rattle.std.specs.Option.{option_and_then, option_map}
 use Rattle.std.proofs.lemmas.Option.{none-some, same_Some}
 use Rattle.xk_base.specs.declared.events.Event.{Event}
@@ -18,8 +18,8 @@ use Rattle.order_laws.specs.Slices.{Slice as SliceOf, last_or, no_step, slice, s
 use Rattle.state_search.specs.Graph.{node_by}
 use Rattle.node_laws.specs.declared.moves.Move.{Move}
 use Rattle.node_laws.specs.declared.moves.Move.TheVariants.{Once, Slice}
-use Rattle.node_laws.specs.Moves.{Asked, Point, behind, leads, leads_by, may_come, most_steps, slice_at, what_comes, with_come}
-use Rattle.node_laws.specs.Nodes.{after, goes_on, node_of}
+use Rattle.node_laws.specs.Moves.{Asked, Point, behind, leads, leads_by, may_come, most_steps, what_comes, with_come}
+use Rattle.node_laws.specs.Nodes.{after, node_of}
 use Rattle.node_laws.specs.Orders.{GoOn, OrdersArePaths}
 use Rattle.node_laws.proofs.Moving.NodeLemmas.{nodes_lead_alike}
 use Rattle.node_laws.proofs.Moving.PlayLemmas.{slice_is}

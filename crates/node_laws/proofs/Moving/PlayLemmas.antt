@@ -1,6 +1,5 @@
 -- Each order is played by its events.
 use Rattle.std.proofs.Common.{◌≡◌, ◌≤◌, ℕ, ◌+◌, Bool, true, false, List, [], ◌∷◌, ◌++◌, Option, Some, None, refl, sym, ap, ◌∙◌, arith, append-nil, append_assoc, subst}
-use Rattle.std.specs.List.{flat_map}
 use Rattle.std.specs.Prelude.{◌==◌, ◌&&◌, not, slice_get, if◌then◌else◌}
 use Rattle.std.specs.Option.{option_and_then, option_map, option_map_or}
 use Rattle.std.proofs.lemmas.Bool.{eqb-true, false≢true}
@@ -17,12 +16,12 @@ use Rattle.machine_model.specs.Stepping.Step.{Recorded}
 use Rattle.machine_history.specs.History.{History, behind as behind_records, followed_by, history, play, reached}
 use Rattle.machine_history.proofs.Histories.HistoryLemmas.{history_append, history_first, history_none}
 use Rattle.machine_history.proofs.Histories.LimitLemmas.{irq_steps, kill_steps}
-use Rattle.order_laws.specs.Slices.{Slice as SliceOf, slice, slice_events, turned}
+use Rattle.order_laws.specs.Slices.{turned}
 use Rattle.order_laws.proofs.SliceLemmas.{slice_counts, slice_plays}
 use Rattle.node_laws.specs.declared.moves.Move.{Move}
 use Rattle.node_laws.specs.declared.moves.Move.TheVariants.{Once, Slice}
-use Rattle.node_laws.specs.Moves.{Asked, Point, behind, byte_of_what, bytes_of, events_of, events_of_move, is_at_bound, is_slice, leads, leads_by, may_come, most_steps, slice_at, what_comes, with_come}
-use Rattle.node_laws.specs.Orders.{IsPlayed, OrdersArePlayed}
+use Rattle.node_laws.specs.Moves.{Asked, Point, behind, byte_of_what, bytes_of, events_of, events_of_move, is_at_bound, is_slice, leads, leads_by, most_steps, slice_at, what_comes, with_come}
+use Rattle.node_laws.specs.Orders.{OrdersArePlayed}
 
 -- a test of three parts holds, and so do the parts
 parts : (a b c : Bool) → (a && (b && c)) ≡ true → (a ≡ true) × (c ≡ true)

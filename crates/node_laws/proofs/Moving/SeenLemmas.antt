@@ -1,10 +1,8 @@
 -- All points of a node are seen alike.
-use Rattle.std.proofs.Common.{◌≡◌, List, refl}
-use Rattle.std.specs.Prelude.{Bool}
+use Rattle.std.proofs.Common.{List, refl}
 use Rattle.xk_base.specs.declared.events.Event.{Event}
-use Rattle.xk_base.specs.declared.ids.ThreadId.{ThreadId}
 use Rattle.node_laws.specs.Endings.{AreSeenAlike, NodesAreSeenAlike, kept_at, ready_ids, seen_of}
-use Rattle.node_laws.specs.Moves.{Asked, Bound, Point, Unbounded, UpTo}
+use Rattle.node_laws.specs.Moves.{Bound, Point, Unbounded, UpTo}
 
 alike : (bound : Bound) (quantum : _) (once : List Event) (p : Point) → AreSeenAlike (record { quantum = quantum; bound = bound; once = once }) p
 unfolding ready_ids kept_at seen_of
