@@ -1,7 +1,6 @@
 -- What a search tells that has followed all edges; and how a search begins.
-use Rattle.std.proofs.Common.{◌≡◌, ◌≤◌, ◌<◌, ◌+◌, ℕ, zero, suc, Bool, true, false, cond, List, [], ◌∷◌, ◌++◌, length, Option, Some, None, refl, sym, ap, subst, ◌∙◌, arith, length-append}
+use Rattle.std.proofs.Common.{◌≡◌, ◌≤◌, ◌+◌, ℕ, zero, suc, Bool, true, false, cond, List, [], ◌∷◌, ◌++◌, length, Option, Some, refl, sym, ap, subst, ◌∙◌, arith, length-append}
 use Rattle.std.specs.Prelude.{slice_get}
-use Rattle.std.specs.Option.{option_and_then}
 use Rattle.std.proofs.lemmas.Option.{option_and_then_some}
 use Rattle.std.specs.declared.cmp.Ordering.{Ordering}
 use Rattle.std.specs.declared.cmp.Ordering.TheVariants.{Equal}
@@ -11,7 +10,7 @@ use Rattle.std.specs.List.{list_any}
 use Rattle.std.proofs.lemmas.Bool.{false≢true}
 use Rattle.state_search.specs.declared.found.Edge.{Edge}
 use Rattle.state_search.specs.Graph.{node_by}
-use Rattle.state_search.specs.Paths.{IsTree, labels_to}
+use Rattle.state_search.specs.Paths.{labels_to}
 use Rattle.state_search.specs.Searching.{IsKeyFound, IsMetBy, SearchedAt}
 use Rattle.state_search.specs.Told.{IsFound, IsTold, Tells, TellsAll, KeysTell}
 use Rattle.state_search.proofs.ListLemmas.{element_at}

@@ -1,5 +1,5 @@
 -- The nodes of a search are numbered: 0 is the start, and k + 1 is that to which its edge k leads, which comes from an earlier one.
-use Rattle.std.specs.Prelude.{◌≡◌, ◌≤◌, ℕ, zero, suc, List, [], ◌∷◌, ◌++◌, slice_get, Option, Some, None}
+use Rattle.std.specs.Prelude.{◌≡◌, ◌≤◌, ℕ, zero, suc, List, [], ◌∷◌, ◌++◌, slice_get, Some}
 use Rattle.std.specs.Option.{option_map_or}
 use Rattle.state_search.specs.declared.found.Edge.{Edge}
 

@@ -1,6 +1,6 @@
-use Rattle.std.proofs.Common.{◌≡◌, ◌≤◌, ◌+◌, ◌-◌, ℕ, List, [], length, ◌∙◌, refl, sym, ap, subst, arith}
+use Rattle.std.proofs.Common.{◌≡◌, ◌≤◌, ◌+◌, length, ◌∙◌, sym, ap, subst, arith}
 use Rattle.state_search.specs.Searching.{Searched}
-use Rattle.state_search.specs.Told.{KeysTell, Tells, TellsAll}
+use Rattle.state_search.specs.Told.{Tells}
 use Rattle.state_search.proofs.WholeLemmas.{only_key, searched_start, tells_all, tells_start}
 use Rattle.state_search.proofs.searching.go_on.Goals as goal
 
