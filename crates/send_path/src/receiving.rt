@@ -21,8 +21,7 @@ use xk_parts::{Seated, own_server, pass, wait};
 /// A thread asks for a message of the server with that identifier, which is one of its process: it
 /// gets the oldest queued message. Where none is queued it waits for one, if it wants to wait, and
 /// else is answered that there is none. It is refused as `ServerNotFound` where there is no such
-/// server, and then nothing changes. Tid 1 may not wait: where it does the parts aren't those of a matched
-/// machine any more.
+/// server, and then nothing changes. Tid 1 may not wait: such a call of it is refused before.
 pub fn receive(
     threads: &mut Threads,
     servers: &Servers,
@@ -34,12 +33,13 @@ pub fn receive(
 ) -> Result<(), XousError>
     requires ready { is_ready (threads_of threads.old who) ≡ true }
     requires room { length log.old.records + 2 ≤ log.old.room }
+    requires waits { IsFalse (wait_for_one && (who.tid.0 == 1)) }
     requires sound { AreSound no_store who (tables_of threads.old servers.now queues.old log.old) }
     ensures row { let old = tables_of threads.old servers.now queues.old log.old in
         let new = record old { threads = threads.new; queues = queues.new; log = log.new } in
         IsRow no_store.held (receive_row sid wait_for_one) who old new result }
     ensures sound { let new = tables_of threads.new servers.now queues.new log.new in
-        IsFalse (wait_for_one && (who.tid.0 == 1)) → AreSound no_store who new }
+        AreSound no_store who new }
     ensures loans { let live = servers_of servers.now in
         (all : Loans) → AreLoansSound all live queues.old → AreLoansSound all live queues.new }
 {

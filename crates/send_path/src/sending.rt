@@ -58,7 +58,7 @@ struct Asked {
 /// An accepted message gets the number, and its pages are at the receiver at once. Of the threads that
 /// are Receiving at the server the one of least tid gets it; where there is none it is queued. The
 /// sender of a lend or a blocking scalar waits for its answer, and any other is answered. Tid 1 may not
-/// wait: where it does the parts aren't those of a matched machine any more.
+/// wait: such a call of it is refused before.
 pub fn send<W: SwapStore>(
     mem: &mut Memory<W>,
     threads: &mut Threads,
@@ -75,13 +75,14 @@ pub fn send<W: SwapStore>(
     requires served { (call_number words == send_message || call_number words == try_send_message) ≡ true }
     requires usable { IsUsable mem.old }
     requires above { IsAboveMessages number servers.now queues.old }
+    requires waits { IsFalse (is_waiting_kind (send_kind words) && (who.tid.0 == 1)) }
     requires sound { let old = record (parts_of mem.old threads.old servers.now queues.old log.old) { procs = Some procs.now } in
         AreSound W.SwapStore who old }
     ensures row { let old = record (parts_of mem.old threads.old servers.now queues.old log.old) { procs = Some procs.now } in
         let new = record old { mem = Some mem.new; threads = threads.new; queues = queues.new; log = log.new } in
         IsSendRow W.held (send_row number words) who old new result }
     ensures sound { let new = record (parts_of mem.new threads.new servers.now queues.new log.new) { procs = Some procs.now } in
-        IsFalse (is_waiting_kind (send_kind words) && (who.tid.0 == 1)) → AreSound W.SwapStore who new }
+        AreSound W.SwapStore who new }
     ensures mem { KeepsMemory W.SwapStore mem.old mem.new }
 {
     let asked = asked_in(words);
@@ -135,13 +136,14 @@ fn send_asked<W: SwapStore>(
     requires room { length log.old.records + 2 ≤ log.old.room }
     requires usable { IsUsable mem.old }
     requires above { IsAboveMessages number servers.now queues.old }
+    requires waits { IsFalse (is_waiting_kind asked.kind && (who.tid.0 == 1)) }
     requires sound { let old = record (parts_of mem.old threads.old servers.now queues.old log.old) { procs = Some procs.now } in
         AreSound W.SwapStore who old }
     ensures row { let old = record (parts_of mem.old threads.old servers.now queues.old log.old) { procs = Some procs.now } in
         let new = record old { mem = Some mem.new; threads = threads.new; queues = queues.new; log = log.new } in
         IsSendRow W.held (asked_row number asked) who old new result }
     ensures sound { let new = record (parts_of mem.new threads.new servers.now queues.new log.new) { procs = Some procs.now } in
-        IsFalse (is_waiting_kind asked.kind && (who.tid.0 == 1)) → AreSound W.SwapStore who new }
+        AreSound W.SwapStore who new }
     ensures mem { KeepsMemory W.SwapStore mem.old mem.new }
 {
     let Some(to) = connected_server(procs, servers, who.pid, asked.cid) else {

@@ -35,7 +35,7 @@ use Rattle.vm_memory.specs.declared.memory.Memory.{Memory}
 use Rattle.vm_memory.specs.declared.memory.access.Target.{Target}
 use Rattle.vm_memory.specs.declared.memory.access.Target.TheVariants.{Page, Console, Nothing}
 use Rattle.vm_memory.specs.Bytes.{MeansBytes, is_known, is_out, means_bytes, names_slot, none_out}
-use Rattle.vm_memory.specs.Memory.{IsUsable, Size, has_failed, ledger, processes}
+use Rattle.vm_memory.specs.Memory.{IsUsable, Size, has_failed, ledger, processes, store_of}
 use Rattle.vm_memory.specs.Pages.Exchanging.{BringsIn, IsInFrame, slot_reached}
 use Rattle.vm_memory.specs.Sound.{IsSound}
 use Rattle.vm_memory.specs.Using.Access.{contents_reached, reaches_bytes}
@@ -134,6 +134,7 @@ module _ {W : Type 0} (S : SwapStore W) (m n : Memory W)
       out = λ none usable. subst IsUsable (sym (b.none none)) usable;
       none = brings_none;
       no_more = b.no_more;
+      still = λ none. ap (λ x. store_of x) (b.none none);
       store = b.moves.store;
     }
 

@@ -34,6 +34,7 @@ rest_same S pid m = record {
   out = λ none usable. usable;
   none = λ none. none;
   no_more = omega arith;
+  still = λ none. refl;
   store = record { honest = refl; told = refl; slots = refl; preparations = refl; never_falls = omega arith };
 }
 
@@ -58,6 +59,7 @@ module _ {W : Type 0} (S : SwapStore W)
     out = λ none usable. usable;
     none = λ none. none;
     no_more = omega arith;
+    still = λ none. refl;
     store = record { honest = refl; told = refl; slots = refl; preparations = refl; never_falls = omega arith };
   })
 

@@ -34,6 +34,7 @@ rest_over {W} {pid} {a} {b} {c} S x y = record {
   out = λ none usable. y.out (x.none none) (x.out none usable);
   none = λ none. y.none (x.none none);
   no_more = omega (arith, x.no_more, y.no_more);
+  still = λ none. y.still (x.none none) ∙ x.still none;
   store = store_over S (store_of a) (store_of b) (store_of c) x.store y.store;
 }
   where

@@ -65,14 +65,14 @@ returns-in-Some-take_oldest-clause-row c =
     })
 
 pub returns-in-Some-take_oldest-clause-sound : goal.returns-in-Some-take_oldest-clause-sound
-returns-in-Some-take_oldest-clause-sound c = λ above.
+returns-in-Some-take_oldest-clause-sound c =
     let k = c.in-Some.field-0.seat in
     let h = c.in-Some-take_oldest.message in
     let old : CallTables = record { threads = c.args.threads.now; servers = c.args.servers.now; queues = c.args.queues.now; log = c.args.log.now } in
     let new : CallTables = record { threads = c.answer_caller.new.threads; servers = c.args.servers.now; queues = c.keep_received.new.queues; log = c.answer_caller.new.log } in
     record {
       machine = record c.requires.sound.machine { steps = c.requires.sound.machine.steps + 1 };
-      matched = still_matched c.args.who old new c.args.sid c.args.wait_for_one c.requires.sound.machine c.requires.sound.matched c.requires.ready above
+      matched = still_matched c.args.who old new c.args.sid c.args.wait_for_one c.requires.sound.machine c.requires.sound.matched c.requires.ready c.requires.waits
           (returns-in-Some-take_oldest-clause-row c c.requires.sound.machine);
       mem = tt;
       processes = tt;
@@ -110,14 +110,14 @@ returns-then-wait_for_one-clause-row c =
     (c.pass.ensures.after ∙ ap (changed_thread c.args.who passed) c.wait.ensures.after) refl
 
 pub returns-then-wait_for_one-clause-sound : goal.returns-then-wait_for_one-clause-sound
-returns-then-wait_for_one-clause-sound c = λ above.
+returns-then-wait_for_one-clause-sound c =
     let k = c.in-Some.field-0.seat in
     let none = sym c.in_default-take_oldest.ensures.message in
     let old : CallTables = record { threads = c.args.threads.now; servers = c.args.servers.now; queues = c.args.queues.now; log = c.args.log.now } in
     let new : CallTables = record { threads = c.pass.new.threads; servers = c.args.servers.now; queues = c.take_oldest.new.self; log = c.args.log.now } in
     record {
       machine = record c.requires.sound.machine { steps = c.requires.sound.machine.steps + 1 };
-      matched = still_matched c.args.who old new c.args.sid c.args.wait_for_one c.requires.sound.machine c.requires.sound.matched c.requires.ready above
+      matched = still_matched c.args.who old new c.args.sid c.args.wait_for_one c.requires.sound.machine c.requires.sound.matched c.requires.ready c.requires.waits
           (returns-then-wait_for_one-clause-row c c.requires.sound.machine);
       mem = tt;
       processes = tt;
@@ -152,14 +152,14 @@ returns-else-wait_for_one-clause-row c =
     (ready_id c.args.threads.now c.args.who c.requires.ready)
 
 pub returns-else-wait_for_one-clause-sound : goal.returns-else-wait_for_one-clause-sound
-returns-else-wait_for_one-clause-sound c = λ above.
+returns-else-wait_for_one-clause-sound c =
     let k = c.in-Some.field-0.seat in
     let none = sym c.in_default-take_oldest.ensures.message in
     let old : CallTables = record { threads = c.args.threads.now; servers = c.args.servers.now; queues = c.args.queues.now; log = c.args.log.now } in
     let new : CallTables = record { threads = c.answer_caller-else-wait_for_one.new.threads; servers = c.args.servers.now; queues = c.take_oldest.new.self; log = c.answer_caller-else-wait_for_one.new.log } in
     record {
       machine = record c.requires.sound.machine { steps = c.requires.sound.machine.steps + 1 };
-      matched = still_matched c.args.who old new c.args.sid c.args.wait_for_one c.requires.sound.machine c.requires.sound.matched c.requires.ready above
+      matched = still_matched c.args.who old new c.args.sid c.args.wait_for_one c.requires.sound.machine c.requires.sound.matched c.requires.ready c.requires.waits
           (returns-else-wait_for_one-clause-row c c.requires.sound.machine);
       mem = tt;
       processes = tt;

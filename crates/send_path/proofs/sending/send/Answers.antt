@@ -12,5 +12,8 @@ returns-clause-row g c =
     (over c.args.procs.now (parts_of c.send_asked.new.mem c.send_asked.new.threads c.args.servers.now c.send_asked.new.queues c.send_asked.new.log))
     c.requires.served c.send_asked.result c.send_asked.ensures.row
 
+pub send_asked-requires-clause-waits : goal.send_asked-requires-clause-waits
+send_asked-requires-clause-waits g c = ap (λ k. is_waiting_kind k && (c.args.who.tid.0 == 1)) (sym c.asked_in-asked.ensures.1) ∙ c.requires.waits
+
 pub returns-clause-sound : goal.returns-clause-sound
-returns-clause-sound g c = λ no_wait. c.send_asked.ensures.sound (ap (λ k. is_waiting_kind k && (c.args.who.tid.0 == 1)) (sym c.asked_in-asked.ensures.1) ∙ no_wait)
+returns-clause-sound g c = c.send_asked.ensures.sound

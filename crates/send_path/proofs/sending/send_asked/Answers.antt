@@ -170,7 +170,6 @@ returns-clause-sound g c =
     let old = parts_of c.args.mem.now c.args.threads.now c.args.servers.now c.args.queues.now c.args.log.now in
     let alone = without_processes store c.args.who c.args.procs.now old c.requires.sound in
     let room = room_left c.is_full.result (used_of (seat_of c.args.queues.now c.in-Some.to.seat)) c.is_full.ensures.full c.is_full.ensures.few c.if-is_full.false in
-    λ no_wait.
     let m = c.requires.sound.machine in
     let message = (message_at store.held c.args.who c.args.procs.now c.args.number old c.new_message-msg.result c.in-Some-kind_of.kind (asked_words c.args.asked) c.in-Some-arrival.first c.new_message-msg.ensures m) in
     let got = (receiver (process_count c.args.threads.now) c.in-Some.to.serial (threads_of c.args.threads.now)) in
@@ -178,7 +177,7 @@ returns-clause-sound g c =
     let late = rest store c.args.who c.args.procs.now c.args.number old c.requires.sound c.requires.above in
     record {
       machine = record (with_next c.args.procs.now (c.args.number.0 + 1) late) { steps = late.steps + 1 };
-      matched = sent_matched store c.args.who c.args.procs.now c.args.number old c.requires.sound c.requires.above c.requires.ready (asked_words c.args.asked) no_wait (parts_of c.carry-loan.new.mem c.arrive_and_answer.new.threads c.args.servers.now c.arrive_and_answer.new.queues c.arrive_and_answer.new.log) (returns-clause-row g c late);
+      matched = sent_matched store c.args.who c.args.procs.now c.args.number old c.requires.sound c.requires.above c.requires.ready (asked_words c.args.asked) c.requires.waits (parts_of c.carry-loan.new.mem c.arrive_and_answer.new.threads c.args.servers.now c.arrive_and_answer.new.queues c.arrive_and_answer.new.log) (returns-clause-row g c late);
       mem = c.carry-loan.ensures.sound;
       processes = c.arrive_and_answer.ensures.count ∙ c.requires.sound.processes
           ∙ sym (ap (λ (s : Size). s.procs) c.carry-loan.ensures.keeps.size);

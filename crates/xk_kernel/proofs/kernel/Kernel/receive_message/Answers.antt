@@ -27,7 +27,7 @@ left_sound : (g : Over) (c : goal.In-Ok g) → AreSound g.W.SwapStore c.args.sel
 left_sound g c =
     let k = c.args.self.now in
     received_sound g.W.SwapStore k c.requires.calls c.args.sid c.args.waits (left g c).tables c.in-Ok.ensures.row c.requires.free
-    refl (c.in-Ok.ensures.sound c.requires.free).seats
+    refl c.in-Ok.ensures.sound.seats
     (c.in-Ok.ensures.loans (loans (ledger g.W.SwapStore.held k.mem))
     (open_loans (loans (ledger g.W.SwapStore.held k.mem)) k.servers k.queues c.requires.calls.whole.servers.messages))
 

@@ -26,6 +26,10 @@ pub send-sent-requires-clause-above : goal.send-sent-requires-clause-above
 unfolding machine_of
 send-sent-requires-clause-above g c = c.requires.calls.matched.rest.above.numbers
 
+pub send-sent-requires-clause-waits : goal.send-sent-requires-clause-waits
+unfolding machine_of
+send-sent-requires-clause-waits g c = may_send c.args.words c.args.tries c.requires.number (machine_of g.W.SwapStore.held c.args.self.now) c.requires.free
+
 pub send-sent-requires-clause-sound : goal.send-sent-requires-clause-sound
 send-sent-requires-clause-sound g c =
     parts_sound_over g.W.SwapStore c.args.self.now c.requires.calls.whole c.requires.calls.matched
@@ -47,7 +51,7 @@ returns-in-Accepted-clause-whole g c =
     let new = parts_of c.send-sent.new.mem c.send-sent.new.threads k.servers c.send-sent.new.queues c.send-sent.new.log in
     new_whole g.W.SwapStore k new (k.next + 1) c.requires.calls.whole
     (sound_without g.W.SwapStore k new
-    (c.in-Accepted.ensures.sound (may_send c.args.words c.args.tries c.requires.number (machine_of g.W.SwapStore.held k) c.requires.free)))
+    c.in-Accepted.ensures.sound)
     c.in-Accepted.ensures.mem.size (served_room (c.in-Accepted.ensures.row (machine_of g.W.SwapStore.held k)))
 
 pub returns-in-Accepted-clause-tells : goal.returns-in-Accepted-clause-tells
@@ -56,7 +60,7 @@ returns-in-Accepted-clause-tells g c =
     let k = c.args.self.now in
     let new = parts_of c.send-sent.new.mem c.send-sent.new.threads k.servers c.send-sent.new.queues c.send-sent.new.log in
     let held = g.W.SwapStore.held in
-    let sound = c.in-Accepted.ensures.sound (may_send c.args.words c.args.tries c.requires.number (machine_of held k) c.requires.free) in
+    let sound = c.in-Accepted.ensures.sound in
     served_settles held k (table_row c.args.words) (with_new k new (k.next + 1)) (machine_at held k.cursor (over k.procs (parts k)) (with_number k.next (machine_of held k)))
     (machine_at held k.cursor (over k.procs new) (with_number (k.next + 1) (machine_of held k))) (machine_next held k (parts k) c.requires.calls.whole.threads k.next)
     (machine_next held k new sound.processes (k.next + 1)) (c.in-Accepted.ensures.row (machine_of held k))
