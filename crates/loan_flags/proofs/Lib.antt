@@ -4,4 +4,3 @@ pub mod PageChangeLemmas
 pub mod SendingLemmas
 pub mod SentLedgerLemmas
 pub mod StandingRunLemmas
-pub mod TestSpaceLemmas

@@ -3,6 +3,7 @@
 ghost use Rattle.std.specs.Prelude.{◌≡◌, ◌<◌};
 ghost use Rattle.phys_pages.specs.Ram.{area};
 
+use crate::expecting::{expect, expect_bytes, expect_word};
 use phys_pages::{LoanInfo, Owners, PageInfo, Ram, Seat};
 use std::process::Abort;
 use xk_base::{Frame, LoanKind, Number, Pid, Place, Slot, Vpn};
@@ -15,8 +16,8 @@ fn write_ends(rt: &impl Abort, ram: &mut Ram, f: Frame, first: u8, last: u8)
     requires { f.0 < (area ram.old).frames }
     ensures { area ram.new ≡ area ram.old }
 {
-    assert_eq!(rt; ram.page(f)[0], 0);
-    assert_eq!(rt; ram.page(f)[4095], 0);
+    expect(rt, ram.page(f)[0] == 0);
+    expect(rt, ram.page(f)[4095] == 0);
     let page = ram.page_mut(f);
     page[0] = first;
     page[4095] = last;
@@ -32,21 +33,21 @@ fn ends(ram: &Ram, f: Frame) -> (u8, u8)
 #[test]
 fn pages_of_64_mib(rt: HostRuntime) {
     if let Ok(mut ram) = Ram::new(rt.alloc(), START, 16_384) {
-        assert_eq!(rt; ram.frames(), 16_384);
+        expect_word(&rt, ram.frames(), 16_384);
         write_ends(&rt, &mut ram, Frame(0), 1, 2);
         write_ends(&rt, &mut ram, Frame(8191), 3, 4);
         write_ends(&rt, &mut ram, Frame(16_383), 5, 6);
-        assert_eq!(rt; ends(&ram, Frame(0)), (1, 2));
-        assert_eq!(rt; ends(&ram, Frame(1)), (0, 0));
-        assert_eq!(rt; ends(&ram, Frame(8191)), (3, 4));
-        assert_eq!(rt; ends(&ram, Frame(16_383)), (5, 6));
-        assert_eq!(rt; ram.ppn_of(Frame(16_383)), 0x4_3FFF);
-        assert_eq!(rt; ram.frame_of(0x3_FFFF), None);
-        assert_eq!(rt; ram.frame_of(0x4_0000), Some(Frame(0)));
-        assert_eq!(rt; ram.frame_of(0x4_3FFF), Some(Frame(16_383)));
-        assert_eq!(rt; ram.frame_of(0x4_4000), None);
+        expect(&rt, ends(&ram, Frame(0)) == (1, 2));
+        expect(&rt, ends(&ram, Frame(1)) == (0, 0));
+        expect(&rt, ends(&ram, Frame(8191)) == (3, 4));
+        expect(&rt, ends(&ram, Frame(16_383)) == (5, 6));
+        expect_word(&rt, ram.ppn_of(Frame(16_383)), 0x4_3FFF);
+        expect(&rt, ram.frame_of(0x3_FFFF) == None);
+        expect(&rt, ram.frame_of(0x4_0000) == Some(Frame(0)));
+        expect(&rt, ram.frame_of(0x4_3FFF) == Some(Frame(16_383)));
+        expect(&rt, ram.frame_of(0x4_4000) == None);
     } else {
-        assert!(rt; false);
+        expect(&rt, false);
     }
 }
 
@@ -55,14 +56,14 @@ fn words_at_page_ends(rt: HostRuntime) {
     if let Ok(mut ram) = Ram::new(rt.alloc(), START, 2) {
         ram.set_word(START + 4092, 0x0403_0201);
         ram.set_word(START + 4096, 0x0807_0605);
-        assert_eq!(rt; &ram.page(Frame(0))[4092..], [1, 2, 3, 4].as_slice());
-        assert_eq!(rt; &ram.page(Frame(1))[..5], [5, 6, 7, 8, 0].as_slice());
-        assert_eq!(rt; ram.word(START + 4088), 0);
-        assert_eq!(rt; ram.word(START + 4092), 0x0403_0201);
-        assert_eq!(rt; ram.word(START + 4096), 0x0807_0605);
-        assert_eq!(rt; ram.word(START + 8188), 0);
+        expect_bytes(&rt, &ram.page(Frame(0))[4092..], &[1, 2, 3, 4]);
+        expect_bytes(&rt, &ram.page(Frame(1))[..5], &[5, 6, 7, 8, 0]);
+        expect_word(&rt, ram.word(START + 4088), 0);
+        expect_word(&rt, ram.word(START + 4092), 0x0403_0201);
+        expect_word(&rt, ram.word(START + 4096), 0x0807_0605);
+        expect_word(&rt, ram.word(START + 8188), 0);
     } else {
-        assert!(rt; false);
+        expect(&rt, false);
     }
 }
 
@@ -86,22 +87,22 @@ fn full_but_for_the_last_frame(rt: HostRuntime) {
         }),
     };
     if let Ok(mut owners) = Owners::new(rt.alloc(), Frame(21), 16_363, 2) {
-        assert_eq!(rt; owners.free_frame(), Some(Frame(21)));
+        expect(&rt, owners.free_frame() == Some(Frame(21)));
         for n in 21..16_383 {
             owners.set(Seat::Frame(Frame(n)), Some(lent));
         }
         let last = Seat::Frame(Frame(16_383));
-        assert_eq!(rt; owners.free_frame(), Some(Frame(16_383)));
-        assert_eq!(rt; owners.info(last).copied(), None);
+        expect(&rt, owners.free_frame() == Some(Frame(16_383)));
+        expect(&rt, owners.info(last).copied() == None);
         owners.set(last, Some(lent));
-        assert_eq!(rt; owners.free_frame(), None);
-        assert_eq!(rt; owners.info(last).copied(), Some(lent));
-        assert_eq!(rt; owners.free_slot(), Some(Slot(0)));
+        expect(&rt, owners.free_frame() == None);
+        expect(&rt, owners.info(last).copied() == Some(lent));
+        expect(&rt, owners.free_slot() == Some(Slot(0)));
         owners.set(Seat::Slot(Slot(0)), Some(lent));
-        assert_eq!(rt; owners.free_slot(), Some(Slot(1)));
+        expect(&rt, owners.free_slot() == Some(Slot(1)));
         owners.set(Seat::Frame(Frame(21)), None);
-        assert_eq!(rt; owners.free_frame(), Some(Frame(21)));
+        expect(&rt, owners.free_frame() == Some(Frame(21)));
     } else {
-        assert!(rt; false);
+        expect(&rt, false);
     }
 }

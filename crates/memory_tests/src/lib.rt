@@ -5,6 +5,8 @@
 #[cfg(test)]
 mod entries_and_owners;
 #[cfg(test)]
+mod expecting;
+#[cfg(test)]
 mod frames;
 #[cfg(test)]
 mod loan_runs;
@@ -16,5 +18,7 @@ mod memory;
 mod queues;
 #[cfg(test)]
 mod slots;
+#[cfg(test)]
+mod small_space;
 #[cfg(test)]
 mod spaces;

@@ -1,280 +1,84 @@
 //! A run of two pages of process 2, the first in a frame and the second out on the store: lent,
 //! passed, ended and orphaned, and moved.
 
-ghost use Rattle.ledger_model.specs.Places.{in_run, is_place_in};
-ghost use Rattle.loan_flags.specs.Keeping.{entries_of};
-ghost use Rattle.phys_pages.specs.Owners.{HasSeat, infos};
-ghost use Rattle.std.specs.Prelude.{IfOk, IfSome, IsSome, IsTrue, Some, is_some, ◌+◌, ◌<◌, ◌≡◌};
-ghost use Rattle.sv32_space.specs.EntryLoans.{IsUnlent, StandsIn};
-ghost use Rattle.sv32_space.specs.declared.sides.Entry.TheVariants.{Free};
-ghost use Rattle.xk_base.specs.declared.windows.Window.TheVariants.{Message};
-ghost use Rattle.xk_base.specs.Numbers.Windows.{window_at};
-
-use loan_flags::{Loan, end_run, free_run, give_run, lend_run, may_send, orphan_run, pass_run};
-use phys_pages::{Owners, PageInfo, Ram, Seat};
-use std::alloc::Global;
-use std::marker::Model;
-use sv32_space::{Entry, Side, entry_at, leaf, new_space, set_entry};
-use xk_base::{Frame, LoanKind, MemKind, NoMemory, Number, Pid, Place, Right, Slot, Vpn, Window};
-
-const START: u32 = 0x4000_0000;
-
-/// The sender's first page, in the Heap window.
-const FIRST: u32 = 0x2_0000;
-
-/// The first page of the Message window.
-const MESSAGE: u32 = 0x4_0000;
+use crate::expecting::{expect, expect_words};
+use crate::small_space::{
+    FIRST, FREE, MESSAGE, end, give, is_free, lend, orphan, pass, two_pages, words,
+};
+use phys_pages::Seat;
+use xk_base::{Frame, LoanKind, Slot};
 
 /// The words of two pages with R and W, in frame 22 and at slot 5.
 const OWN: [u32; 2] = [0x1000_58D7, 0x0000_14F6];
 
-const FREE: [u32; 2] = [0, 0];
-
-/// The memory of one process.
-#[derive(Drop)]
-struct Space {
-    ram: Ram,
-    owners: Owners,
-}
-
-impl Model for Space {
-    ghost use Rattle.loan_flags.specs.Keeping.{Tables, tables};
-    ghost use Rattle.phys_pages.specs.Owners.{extent};
-    ghost use Rattle.std.specs.Prelude.{◌≡◌};
-    ghost use Rattle.sv32_space.specs.Tie.{agrees};
-
-    ghost Value = { Tables };
-
-    ghost view = { λ s. tables s.ram s.owners };
-
-    ghost invariant = { λ s. agrees s.ram s.owners × (extent s.owners ≡ record { first = 21; frames = 43; slots = 16 }) };
-}
-
-fn place(vpn: u32) -> Place
-    ensures { result ≡ record { pid = record { 0 = 2 }; vpn = record { 0 = vpn } } }
-{
-    Place {
-        pid: Pid(2),
-        vpn: Vpn(vpn),
-    }
-}
-
-/// A process without a page, and no loan of message 7.
-#[tactic(auto, using(loan_flags::proofs::TestSpaceLemmas::none_unlent))]
-fn empty(alloc: Global) -> Result<Space, NoMemory>
-    ensures unlent { IfOk result (λ s. IsUnlent (infos s.owners) (record { 0 = 7 })) }
-{
-    let mut ram = Ram::new(alloc, START, 64)?;
-    new_space(&mut ram, Frame(0));
-    let owners = Owners::new(alloc, Frame(21), 43, 16)?;
-    Ok(Space { ram, owners })
-}
-
-/// A page with R and W comes to a place and a seat, where both are free.
-fn put(s: &mut Space, vpn: u32, seat: Seat) -> bool
-    requires unlent { IsUnlent (infos s.old.owners) (record { 0 = 7 }) }
-    requires window { IsSome (window_at vpn) }
-    requires seat { HasSeat (record { first = 21; frames = 43; slots = 16 }) seat }
-    ensures unlent { IsUnlent (infos s.new.owners) (record { 0 = 7 }) }
-{
-    let home = place(vpn);
-    let Some(Entry::Free) = entry_at(&s.ram, home) else {
-        return false;
-    };
-    if s.owners.info(seat).is_some() {
-        return false;
-    }
-    set_entry(
-        &mut s.ram,
-        home,
-        Entry::At {
-            side: Side::Own(Right { w: true, x: false }),
-            seat,
-        },
-    );
-    s.owners.set(
-        seat,
-        Some(PageInfo {
-            home: Some(home),
-            loan: None,
-        }),
-    );
-    true
-}
-
-/// The two pages, if they came to their places.
-fn two_pages(alloc: Global) -> Option<Space>
-    ensures unlent { IfSome result (λ s. IsUnlent (infos s.owners) (record { 0 = 7 })) }
-{
-    let Ok(mut s) = empty(alloc) else {
-        return None;
-    };
-    let near = put(&mut s, FIRST, Seat::Frame(Frame(22)));
-    let out = put(&mut s, FIRST + 1, Seat::Slot(Slot(5)));
-    if near && out { Some(s) } else { None }
-}
-
-/// The words of two entries.
-fn words(s: &Space, vpn: u32) -> [u32; 2]
-    requires low { vpn + 1 < 4294967296 }
-    requires first { IsSome (window_at vpn) }
-    requires second { IsSome (window_at (vpn + 1)) }
-{
-    [leaf(&s.ram, place(vpn)), leaf(&s.ram, place(vpn + 1))]
-}
-
-/// No page is at the seat.
-fn is_free(s: &Space, seat: Seat) -> bool
-    requires { HasSeat (record { first = 21; frames = 43; slots = 16 }) seat }
-{
-    s.owners.info(seat).is_none()
-}
-
-/// The first of two free places in the Message window.
-fn free_places(s: &Space) -> Option<Place>
-    ensures free { IfSome result (λ to. (p : Place) → IsTrue (in_run to 2 p) → entries_of s.now p ≡ Some Free) }
-    ensures lies { IfSome result (λ to. (p : Place) → IsTrue (in_run to 2 p) → IsTrue (is_place_in 1 Message p)) }
-{
-    let vpn = free_run(&s.ram, Pid(2), Window::Message, 2)?;
-    Some(place(vpn.0))
-}
-
-/// Lends the two pages by message 7.
-fn lend(s: &mut Space, kind: LoanKind) -> Option<Loan>
-    requires unlent { IsUnlent (infos s.old.owners) (record { 0 = 7 }) }
-    ensures stands { IfSome result (λ loan. StandsIn (entries_of s.new) (infos s.new.owners) loan) }
-    ensures lender { IfSome result (λ loan. IsTrue (is_some loan.lender)) }
-    ensures count { IfSome result (λ loan. loan.count ≡ 2) }
-{
-    let sent = match kind {
-        LoanKind::Shared => MemKind::Lend,
-        LoanKind::Exclusive => MemKind::LendMut,
-    };
-    let to = free_places(s)?;
-    match may_send(&s.ram, place(FIRST), 2, sent) {
-        Ok(()) => Some(lend_run(
-            &mut s.ram,
-            &mut s.owners,
-            place(FIRST),
-            2,
-            to,
-            kind,
-            Number(7),
-        )),
-        Err(_) => None,
-    }
-}
-
-/// Passes the loan on to the next free places.
-fn pass(s: &mut Space, loan: Loan) -> Loan
-    requires stands { StandsIn (entries_of s.old) (infos s.old.owners) loan }
-    requires lender { IsTrue (is_some loan.lender) }
-    requires count { loan.count ≡ 2 }
-    ensures stands { StandsIn (entries_of s.new) (infos s.new.owners) result }
-{
-    match free_places(s) {
-        Some(to) => pass_run(&mut s.ram, &mut s.owners, loan, to),
-        None => loan,
-    }
-}
-
-/// Takes the lender from the loan.
-fn orphan(s: &mut Space, loan: Loan) -> Loan
-    requires stands { StandsIn (entries_of s.old) (infos s.old.owners) loan }
-    requires lender { IsTrue (is_some loan.lender) }
-    ensures stands { StandsIn (entries_of s.new) (infos s.new.owners) result }
-{
-    orphan_run(&mut s.ram, &mut s.owners, loan)
-}
-
-fn end(s: &mut Space, loan: Loan)
-    requires stands { StandsIn (entries_of s.old) (infos s.old.owners) loan }
-{
-    end_run(&mut s.ram, &mut s.owners, loan);
-}
-
-/// Moves the two pages.
-fn give(s: &mut Space) -> bool {
-    let Some(to) = free_places(s) else {
-        return false;
-    };
-    match may_send(&s.ram, place(FIRST), 2, MemKind::Move) {
-        Ok(()) => {
-            give_run(&mut s.ram, &mut s.owners, place(FIRST), 2, to);
-            true
-        }
-        Err(_) => false,
-    }
-}
-
 // The words are written down by hand from the bits of each kind.
 #[test]
 fn lend_ends(rt: HostRuntime) {
-    let Some(mut s) = two_pages(rt.alloc()) else {
-        assert!(rt; false);
+    let Some(mut s) = two_pages(rt.alloc(), Seat::Slot(Slot(5))) else {
+        expect(&rt, false);
         return;
     };
-    assert_eq!(rt; words(&s, FIRST), OWN);
+    expect_words(&rt, words(&s, FIRST), OWN);
     let Some(loan) = lend(&mut s, LoanKind::Shared) else {
-        assert!(rt; false);
+        expect(&rt, false);
         return;
     };
-    assert_eq!(rt; words(&s, FIRST), [0x1000_5BD3, 0x0000_17F2]);
-    assert_eq!(rt; words(&s, MESSAGE), [0x1000_5953, 0x0000_1572]);
+    expect_words(&rt, words(&s, FIRST), [0x1000_5BD3, 0x0000_17F2]);
+    expect_words(&rt, words(&s, MESSAGE), [0x1000_5953, 0x0000_1572]);
     end(&mut s, loan);
-    assert_eq!(rt; words(&s, FIRST), OWN);
-    assert_eq!(rt; words(&s, MESSAGE), FREE);
+    expect_words(&rt, words(&s, FIRST), OWN);
+    expect_words(&rt, words(&s, MESSAGE), FREE);
 }
 
 #[test]
 fn mutable_lend_is_passed_and_ends(rt: HostRuntime) {
-    let Some(mut s) = two_pages(rt.alloc()) else {
-        assert!(rt; false);
+    let Some(mut s) = two_pages(rt.alloc(), Seat::Slot(Slot(5))) else {
+        expect(&rt, false);
         return;
     };
     let Some(loan) = lend(&mut s, LoanKind::Exclusive) else {
-        assert!(rt; false);
+        expect(&rt, false);
         return;
     };
-    assert_eq!(rt; words(&s, FIRST), [0x1000_5B06, 0x0000_1726]);
-    assert_eq!(rt; words(&s, MESSAGE), [0x1000_59D7, 0x0000_15F6]);
+    expect_words(&rt, words(&s, FIRST), [0x1000_5B06, 0x0000_1726]);
+    expect_words(&rt, words(&s, MESSAGE), [0x1000_59D7, 0x0000_15F6]);
     let passed = pass(&mut s, loan);
-    assert_eq!(rt; words(&s, FIRST), [0x1000_5B06, 0x0000_1726]);
-    assert_eq!(rt; words(&s, MESSAGE), FREE);
-    assert_eq!(rt; words(&s, MESSAGE + 2), [0x1000_59D7, 0x0000_15F6]);
+    expect_words(&rt, words(&s, FIRST), [0x1000_5B06, 0x0000_1726]);
+    expect_words(&rt, words(&s, MESSAGE), FREE);
+    expect_words(&rt, words(&s, MESSAGE + 2), [0x1000_59D7, 0x0000_15F6]);
     end(&mut s, passed);
-    assert_eq!(rt; words(&s, FIRST), OWN);
-    assert_eq!(rt; words(&s, MESSAGE + 2), FREE);
+    expect_words(&rt, words(&s, FIRST), OWN);
+    expect_words(&rt, words(&s, MESSAGE + 2), FREE);
 }
 
 #[test]
 fn lend_is_orphaned_and_ends(rt: HostRuntime) {
-    let Some(mut s) = two_pages(rt.alloc()) else {
-        assert!(rt; false);
+    let Some(mut s) = two_pages(rt.alloc(), Seat::Slot(Slot(5))) else {
+        expect(&rt, false);
         return;
     };
     let Some(loan) = lend(&mut s, LoanKind::Shared) else {
-        assert!(rt; false);
+        expect(&rt, false);
         return;
     };
     let orphans = orphan(&mut s, loan);
-    assert_eq!(rt; words(&s, FIRST), FREE);
-    assert_eq!(rt; words(&s, MESSAGE), [0x1000_5953, 0x0000_1572]);
-    assert!(rt; !is_free(&s, Seat::Frame(Frame(22))));
-    assert!(rt; !is_free(&s, Seat::Slot(Slot(5))));
+    expect_words(&rt, words(&s, FIRST), FREE);
+    expect_words(&rt, words(&s, MESSAGE), [0x1000_5953, 0x0000_1572]);
+    expect(&rt, !is_free(&s, Seat::Frame(Frame(22))));
+    expect(&rt, !is_free(&s, Seat::Slot(Slot(5))));
     end(&mut s, orphans);
-    assert_eq!(rt; words(&s, MESSAGE), FREE);
-    assert!(rt; is_free(&s, Seat::Frame(Frame(22))));
-    assert!(rt; is_free(&s, Seat::Slot(Slot(5))));
+    expect_words(&rt, words(&s, MESSAGE), FREE);
+    expect(&rt, is_free(&s, Seat::Frame(Frame(22))));
+    expect(&rt, is_free(&s, Seat::Slot(Slot(5))));
 }
 
 #[test]
 fn pages_are_moved(rt: HostRuntime) {
-    let Some(mut s) = two_pages(rt.alloc()) else {
-        assert!(rt; false);
+    let Some(mut s) = two_pages(rt.alloc(), Seat::Slot(Slot(5))) else {
+        expect(&rt, false);
         return;
     };
-    assert!(rt; give(&mut s));
-    assert_eq!(rt; words(&s, FIRST), FREE);
-    assert_eq!(rt; words(&s, MESSAGE), OWN);
+    expect(&rt, give(&mut s));
+    expect_words(&rt, words(&s, FIRST), FREE);
+    expect_words(&rt, words(&s, MESSAGE), OWN);
 }

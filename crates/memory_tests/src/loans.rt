@@ -6,10 +6,11 @@ ghost use Rattle.sv32_space.specs.SpelledEntries.{IsEntry};
 ghost use Rattle.sv32_space.specs.Spaces.{IsMade};
 ghost use Rattle.sv32_space.specs.declared.sides.EntryKind.TheVariants.{Here, Out};
 
+use crate::expecting::{expect, expect_run, expect_word};
 use loan_flags::{free_run, may_send};
 use phys_pages::{Ram, Seat};
 use sv32_space::{Entry, EntryKind, Side, entry_of, new_space, set_entry};
-use xk_base::{Frame, LoanKind, MemKind, Pid, Place, Right, Slot, Vpn, Window, XousError};
+use xk_base::{Frame, MemKind, Pid, Place, Right, Slot, Vpn, Window, XousError};
 
 const START: u32 = 0x4000_0000;
 
@@ -33,12 +34,12 @@ fn out(side: Side) -> EntryKind
 // Written down by hand from the bits of each kind.
 #[test]
 fn words_of_loans(rt: HostRuntime) {
-    assert_eq!(rt; entry_of(near(Side::Own(RW))), 0x1000_58D7);
-    assert_eq!(rt; entry_of(near(Side::LentOut(RW))), 0x1000_5BD3);
-    assert_eq!(rt; entry_of(near(Side::LentIn)), 0x1000_5953);
-    assert_eq!(rt; entry_of(near(Side::MutOut { x: false })), 0x1000_5B06);
-    assert_eq!(rt; entry_of(near(Side::MutIn)), 0x1000_59D7);
-    assert_eq!(rt; entry_of(out(Side::Own(RW))), 0x0000_14F6);
+    expect_word(&rt, entry_of(near(Side::Own(RW))), 0x1000_58D7);
+    expect_word(&rt, entry_of(near(Side::LentOut(RW))), 0x1000_5BD3);
+    expect_word(&rt, entry_of(near(Side::LentIn)), 0x1000_5953);
+    expect_word(&rt, entry_of(near(Side::MutOut { x: false })), 0x1000_5B06);
+    expect_word(&rt, entry_of(near(Side::MutIn)), 0x1000_59D7);
+    expect_word(&rt, entry_of(out(Side::Own(RW))), 0x0000_14F6);
 }
 
 // An entry at a place of the Message window of process 2.
@@ -76,19 +77,19 @@ fn free_runs(rt: HostRuntime) {
     };
     if let Ok(mut ram) = Ram::new(rt.alloc(), START, 64) {
         new_space(&mut ram, Frame(0));
-        assert_eq!(rt; run_of(&ram, 2), Some(Vpn(0x4_0000)));
-        assert_eq!(rt; run_of(&ram, 4096), Some(Vpn(0x4_0000)));
-        assert_eq!(rt; run_of(&ram, 4097), None);
+        expect_run(&rt, run_of(&ram, 2), Some(Vpn(0x4_0000)));
+        expect_run(&rt, run_of(&ram, 4096), Some(Vpn(0x4_0000)));
+        expect_run(&rt, run_of(&ram, 4097), None);
         put(&mut ram, 0x4_0001, near);
-        assert_eq!(rt; run_of(&ram, 1), Some(Vpn(0x4_0000)));
-        assert_eq!(rt; run_of(&ram, 2), Some(Vpn(0x4_0002)));
-        assert_eq!(rt; run_of(&ram, 4094), Some(Vpn(0x4_0002)));
-        assert_eq!(rt; run_of(&ram, 4095), None);
+        expect_run(&rt, run_of(&ram, 1), Some(Vpn(0x4_0000)));
+        expect_run(&rt, run_of(&ram, 2), Some(Vpn(0x4_0002)));
+        expect_run(&rt, run_of(&ram, 4094), Some(Vpn(0x4_0002)));
+        expect_run(&rt, run_of(&ram, 4095), None);
         put(&mut ram, 0x4_0FFD, near);
-        assert_eq!(rt; run_of(&ram, 4091), Some(Vpn(0x4_0002)));
-        assert_eq!(rt; run_of(&ram, 4092), None);
+        expect_run(&rt, run_of(&ram, 4091), Some(Vpn(0x4_0002)));
+        expect_run(&rt, run_of(&ram, 4092), None);
     } else {
-        assert!(rt; false);
+        expect(&rt, false);
     }
 }
 
@@ -122,19 +123,22 @@ fn pages_to_send(rt: HostRuntime) {
         put(&mut ram, 0x4_0000, near);
         put(&mut ram, 0x4_0001, out);
         put(&mut ram, 0x4_0002, lent);
-        assert_eq!(rt; sent(&ram, 1, MemKind::LendMut), Ok(()));
-        assert_eq!(rt; sent(&ram, 2, MemKind::Lend), Ok(()));
-        assert_eq!(rt; sent(&ram, 2, MemKind::Move), Ok(()));
-        assert_eq!(rt;
-            sent(&ram, 2, MemKind::LendMut),
-            Err(XousError::ShareViolation)
+        expect(&rt, sent(&ram, 1, MemKind::LendMut) == Ok(()));
+        expect(&rt, sent(&ram, 2, MemKind::Lend) == Ok(()));
+        expect(&rt, sent(&ram, 2, MemKind::Move) == Ok(()));
+        expect(
+            &rt,
+            sent(&ram, 2, MemKind::LendMut) == Err(XousError::ShareViolation),
         );
-        assert_eq!(rt;
-            sent(&ram, 3, MemKind::Move),
-            Err(XousError::ShareViolation)
+        expect(
+            &rt,
+            sent(&ram, 3, MemKind::Move) == Err(XousError::ShareViolation),
         );
-        assert_eq!(rt; sent(&ram, 4, MemKind::Move), Err(XousError::BadAddress));
+        expect(
+            &rt,
+            sent(&ram, 4, MemKind::Move) == Err(XousError::BadAddress),
+        );
     } else {
-        assert!(rt; false);
+        expect(&rt, false);
     }
 }

@@ -16,6 +16,7 @@ use xk_ports::SwapStore;
 
 mod exchange;
 mod first_pages;
+mod first_run;
 
 const PID: Pid = Pid(2);
 

@@ -1,5 +1,6 @@
 //! Each call of the queues.
 
+use crate::expecting::{expect, expect_read};
 use msg_queue::{Held, Queues};
 use std::process::Abort;
 use xk_base::{Message, MsgKind, Number, Pid, ThreadId, Tid, Vpn};
@@ -57,24 +58,34 @@ fn each_call(rt: HostRuntime) {
     assert!(&rt; !queues.is_full(3));
     queues.hold_at(3, 0, message(1, MsgKind::BlockingScalar, Some(8)));
 
-    assert_eq!(rt; (queues.used(2), queues.used(3)), (0, 4));
-    assert_eq!(rt; queues.queued_at(3, 1).map(|m| m.number), Some(Number(5)));
-    assert_eq!(rt; queues.queued_at(3, 2).map(|m| m.number), None);
-    assert_eq!(rt; queues.held_at(3, 0).map(|m| m.number), Some(Number(1)));
-    assert_eq!(rt;
-        queues.held(3, Number(2)).map(|m| m.number),
-        Some(Number(2))
+    expect(&rt, (queues.used(2), queues.used(3)) == (0, 4));
+    expect(
+        &rt,
+        queues.queued_at(3, 1).map(|m| m.number) == Some(Number(5)),
     );
-    assert_eq!(rt; queues.held(3, Number(4)).map(|m| m.number), None);
-    assert_eq!(rt; queues.held_place(3, Number(2)), Some(1));
-    assert_eq!(rt; queues.held_place(3, Number(4)), None);
-    assert_eq!(rt; queues.first_of(3, Pid(9)), Some(Number(2)));
-    assert_eq!(rt; queues.first_of(3, Pid(8)), Some(Number(1)));
-    assert_eq!(rt; queues.first_of(3, Pid(7)), None);
+    expect(&rt, queues.queued_at(3, 2).map(|m| m.number) == None);
+    expect(
+        &rt,
+        queues.held_at(3, 0).map(|m| m.number) == Some(Number(1)),
+    );
+    expect(
+        &rt,
+        queues.held(3, Number(2)).map(|m| m.number) == Some(Number(2)),
+    );
+    expect(&rt, queues.held(3, Number(4)).map(|m| m.number) == None);
+    expect(&rt, queues.held_place(3, Number(2)) == Some(1));
+    expect(&rt, queues.held_place(3, Number(4)) == None);
+    expect(&rt, queues.first_of(3, Pid(9)) == Some(Number(2)));
+    expect(&rt, queues.first_of(3, Pid(8)) == Some(Number(1)));
+    expect(&rt, queues.first_of(3, Pid(7)) == None);
 
-    assert_eq!(rt; number_of(&rt, queues.take_queued(3, Number(5))), Some(5));
-    assert_eq!(rt; number_of(&rt, queues.take_held(3, Number(2))), Some(2));
-    assert_eq!(rt; number_of(&rt, queues.take_held(3, Number(1))), Some(1));
-    assert_eq!(rt; number_of(&rt, queues.take_oldest(3)), Some(4));
+    expect_read(
+        &rt,
+        number_of(&rt, queues.take_queued(3, Number(5))),
+        Some(5),
+    );
+    expect_read(&rt, number_of(&rt, queues.take_held(3, Number(2))), Some(2));
+    expect_read(&rt, number_of(&rt, queues.take_held(3, Number(1))), Some(1));
+    expect_read(&rt, number_of(&rt, queues.take_oldest(3)), Some(4));
     end(&rt, queues);
 }

@@ -1,266 +1,62 @@
 //! Pages of process 2 go out to slot 5 and come back to another frame, by a store whose calls fail
 //! at times: a page of its own, and pages on loan.
 
-ghost use Rattle.ledger_model.specs.Loans.{LoanRun};
-ghost use Rattle.ledger_model.specs.Places.{in_run, is_place_in};
-ghost use Rattle.loan_flags.specs.Keeping.{entries_of};
-ghost use Rattle.phys_pages.specs.Owners.{HasSeat, infos};
-ghost use Rattle.std.specs.Prelude.{IfOk, IfSome, IsSome, IsTrue, Some, is_some, ◌+◌, ◌<◌, ◌≡◌};
-ghost use Rattle.sv32_space.specs.EntryLoans.{IsUnlent, StandsIn};
-ghost use Rattle.sv32_space.specs.declared.sides.Entry.TheVariants.{Free};
-ghost use Rattle.xk_base.specs.declared.windows.Window.TheVariants.{Message};
-ghost use Rattle.xk_base.specs.Numbers.Windows.{window_at};
-
-use loan_flags::{Loan, end_run, free_run, lend_run, may_send, orphan_run};
-use phys_pages::{Owners, PageInfo, Ram, Seat};
-use std::alloc::Global;
-use std::marker::Model;
+use crate::expecting::{expect, expect_words};
+use crate::small_space::{
+    FIRST, FREE, MESSAGE, bytes, comes_back, end, goes_out, is_free, lend, orphan, two_pages, words,
+};
+use phys_pages::Seat;
 use std::test::Fail;
-use sv32_space::{Entry, Side, entry_at, leaf, new_space, set_entry};
-use swap_map::{bring, evict};
-use xk_base::{Frame, LoanKind, MemKind, NoMemory, Number, Pid, Place, Right, Slot, Vpn, Window};
+use xk_base::{Frame, LoanKind, Slot};
 use xk_ports::{MemStore, SwapStore};
-
-const START: u32 = 0x4000_0000;
-
-/// The first of two pages, in the Heap window.
-const FIRST: u32 = 0x2_0000;
-
-/// The first page of the Message window.
-const MESSAGE: u32 = 0x4_0000;
-
-const FREE: [u32; 2] = [0, 0];
-
-/// The memory of one process.
-#[derive(Drop)]
-struct Space {
-    ram: Ram,
-    owners: Owners,
-}
-
-impl Model for Space {
-    ghost use Rattle.loan_flags.specs.Keeping.{Tables, tables};
-    ghost use Rattle.phys_pages.specs.Owners.{extent};
-    ghost use Rattle.std.specs.Prelude.{◌≡◌};
-    ghost use Rattle.sv32_space.specs.Tie.{agrees};
-
-    ghost Value = { Tables };
-
-    ghost view = { λ s. tables s.ram s.owners };
-
-    ghost invariant = { λ s. agrees s.ram s.owners × (extent s.owners ≡ record { first = 21; frames = 43; slots = 16 }) };
-}
-
-fn place(vpn: u32) -> Place
-    ensures { result ≡ record { pid = record { 0 = 2 }; vpn = record { 0 = vpn } } }
-{
-    Place {
-        pid: Pid(2),
-        vpn: Vpn(vpn),
-    }
-}
-
-/// A process without a page, and no loan of message 7. Frame 22 holds sevens.
-#[tactic(auto, using(phys_pages::proofs::PageLemmas::page_writes, loan_flags::proofs::TestSpaceLemmas::none_unlent))]
-fn empty(alloc: Global) -> Result<Space, NoMemory>
-    ensures unlent { IfOk result (λ s. IsUnlent (infos s.owners) (record { 0 = 7 })) }
-{
-    let mut ram = Ram::new(alloc, START, 64)?;
-    ram.page_mut(Frame(22)).fill(7);
-    new_space(&mut ram, Frame(0));
-    let owners = Owners::new(alloc, Frame(21), 43, 16)?;
-    Ok(Space { ram, owners })
-}
-
-/// A page with R and W comes to a place and a seat, where both are free.
-fn put(s: &mut Space, vpn: u32, seat: Seat) -> bool
-    requires unlent { IsUnlent (infos s.old.owners) (record { 0 = 7 }) }
-    requires window { IsSome (window_at vpn) }
-    requires seat { HasSeat (record { first = 21; frames = 43; slots = 16 }) seat }
-    ensures unlent { IsUnlent (infos s.new.owners) (record { 0 = 7 }) }
-{
-    let home = place(vpn);
-    let Some(Entry::Free) = entry_at(&s.ram, home) else {
-        return false;
-    };
-    if s.owners.info(seat).is_some() {
-        return false;
-    }
-    set_entry(
-        &mut s.ram,
-        home,
-        Entry::At {
-            side: Side::Own(Right { w: true, x: false }),
-            seat,
-        },
-    );
-    s.owners.set(
-        seat,
-        Some(PageInfo {
-            home: Some(home),
-            loan: None,
-        }),
-    );
-    true
-}
-
-/// The two pages, in the frames 22 and 23, if they came to their places.
-fn two_pages(alloc: Global) -> Option<Space>
-    ensures unlent { IfSome result (λ s. IsUnlent (infos s.owners) (record { 0 = 7 })) }
-{
-    let Ok(mut s) = empty(alloc) else {
-        return None;
-    };
-    let first = put(&mut s, FIRST, Seat::Frame(Frame(22)));
-    let second = put(&mut s, FIRST + 1, Seat::Frame(Frame(23)));
-    if first && second { Some(s) } else { None }
-}
-
-/// The words of two entries.
-fn words(s: &Space, vpn: u32) -> [u32; 2]
-    requires low { vpn + 1 < 4294967296 }
-    requires first { IsSome (window_at vpn) }
-    requires second { IsSome (window_at (vpn + 1)) }
-{
-    [leaf(&s.ram, place(vpn)), leaf(&s.ram, place(vpn + 1))]
-}
-
-/// The bytes of frame 30.
-fn bytes(s: &Space) -> &[u8] {
-    s.ram.page(Frame(30))
-}
-
-/// No page is at the seat.
-fn is_free(s: &Space, seat: Seat) -> bool
-    requires { HasSeat (record { first = 21; frames = 43; slots = 16 }) seat }
-{
-    s.owners.info(seat).is_none()
-}
-
-/// Lends the two pages by message 7, at free places of the Message window.
-fn lend(s: &mut Space, kind: LoanKind) -> Option<Loan>
-    requires unlent { IsUnlent (infos s.old.owners) (record { 0 = 7 }) }
-    ensures stands { IfSome result (λ loan. StandsIn (entries_of s.new) (infos s.new.owners) loan) }
-    ensures lender { IfSome result (λ loan. IsTrue (is_some loan.lender)) }
-{
-    let sent = match kind {
-        LoanKind::Shared => MemKind::Lend,
-        LoanKind::Exclusive => MemKind::LendMut,
-    };
-    let to = free_places(s)?;
-    match may_send(&s.ram, place(FIRST), 2, sent) {
-        Ok(()) => Some(lend_run(
-            &mut s.ram,
-            &mut s.owners,
-            place(FIRST),
-            2,
-            to,
-            kind,
-            Number(7),
-        )),
-        Err(_) => None,
-    }
-}
-
-/// The first of two free places in the Message window.
-fn free_places(s: &Space) -> Option<Place>
-    ensures free { IfSome result (λ to. (p : Place) → IsTrue (in_run to 2 p) → entries_of s.now p ≡ Some Free) }
-    ensures lies { IfSome result (λ to. (p : Place) → IsTrue (in_run to 2 p) → IsTrue (is_place_in 1 Message p)) }
-{
-    let vpn = free_run(&s.ram, Pid(2), Window::Message, 2)?;
-    Some(place(vpn.0))
-}
-
-/// Takes the lender from the loan.
-fn orphan(s: &mut Space, loan: Loan) -> Loan
-    requires stands { StandsIn (entries_of s.old) (infos s.old.owners) loan }
-    requires lender { IsTrue (is_some loan.lender) }
-    ensures stands { StandsIn (entries_of s.new) (infos s.new.owners) result }
-{
-    orphan_run(&mut s.ram, &mut s.owners, loan)
-}
-
-fn end(s: &mut Space, loan: Loan)
-    requires stands { StandsIn (entries_of s.old) (infos s.old.owners) loan }
-{
-    end_run(&mut s.ram, &mut s.owners, loan);
-}
-
-/// Puts the page of frame 22 out to slot 5, where there is one and the slot is free.
-fn goes_out(s: &mut Space, store: &mut MemStore) -> bool
-    ensures loans { (loan : LoanRun) → StandsIn (entries_of s.old) (infos s.old.owners) loan
-        → StandsIn (entries_of s.new) (infos s.new.owners) loan }
-{
-    if s.owners.info(Seat::Frame(Frame(22))).is_none()
-        || s.owners.info(Seat::Slot(Slot(5))).is_some()
-        || store.slots() < 16
-    {
-        return false;
-    }
-    evict(&mut s.ram, &mut s.owners, store, Frame(22), Slot(5)).is_ok()
-}
-
-/// Brings the page of slot 5 to frame 30, where there is one and the frame is free.
-fn comes_back(s: &mut Space, store: &mut MemStore) -> bool
-    ensures loans { (loan : LoanRun) → StandsIn (entries_of s.old) (infos s.old.owners) loan
-        → StandsIn (entries_of s.new) (infos s.new.owners) loan }
-{
-    if s.owners.info(Seat::Slot(Slot(5))).is_none()
-        || s.owners.info(Seat::Frame(Frame(30))).is_some()
-        || store.slots() < 16
-    {
-        return false;
-    }
-    bring(&mut s.ram, &mut s.owners, store, Slot(5), Frame(30)).is_ok()
-}
 
 // The words are written down by hand from the bits of each kind. The second and the fourth call of
 // the store fail.
 #[test]
 fn page_goes_out_and_comes_back(rt: HostRuntime) -> Result<(), Fail> {
     let mut store = MemStore::new([2, 4].to_vec(rt.alloc())?);
-    assert!(rt; store.prepare(rt.alloc(), 16, None).is_ok());
-    let Some(mut s) = two_pages(rt.alloc()) else {
-        assert!(rt; false);
+    expect(&rt, store.prepare(rt.alloc(), 16, None).is_ok());
+    let Some(mut s) = two_pages(rt.alloc(), Seat::Frame(Frame(23))) else {
+        expect(&rt, false);
         return Ok(());
     };
-    assert!(rt; !goes_out(&mut s, &mut store));
-    assert_eq!(rt; words(&s, FIRST), [0x1000_58D7, 0x1000_5CD7]);
-    assert!(rt; is_free(&s, Seat::Slot(Slot(5))));
-    assert!(rt; goes_out(&mut s, &mut store));
-    assert_eq!(rt; words(&s, FIRST), [0x0000_14F6, 0x1000_5CD7]);
-    assert!(rt; is_free(&s, Seat::Frame(Frame(22))));
-    assert!(rt; !comes_back(&mut s, &mut store));
-    assert_eq!(rt; words(&s, FIRST), [0x0000_14F6, 0x1000_5CD7]);
-    assert!(rt; is_free(&s, Seat::Frame(Frame(30))));
-    assert!(rt; comes_back(&mut s, &mut store));
-    assert_eq!(rt; words(&s, FIRST), [0x1000_78D7, 0x1000_5CD7]);
-    assert!(rt; is_free(&s, Seat::Slot(Slot(5))));
-    assert!(rt; bytes(&s) == [7; 4096].as_slice());
+    expect(&rt, !goes_out(&mut s, &mut store));
+    expect_words(&rt, words(&s, FIRST), [0x1000_58D7, 0x1000_5CD7]);
+    expect(&rt, is_free(&s, Seat::Slot(Slot(5))));
+    expect(&rt, goes_out(&mut s, &mut store));
+    expect_words(&rt, words(&s, FIRST), [0x0000_14F6, 0x1000_5CD7]);
+    expect(&rt, is_free(&s, Seat::Frame(Frame(22))));
+    expect(&rt, !comes_back(&mut s, &mut store));
+    expect_words(&rt, words(&s, FIRST), [0x0000_14F6, 0x1000_5CD7]);
+    expect(&rt, is_free(&s, Seat::Frame(Frame(30))));
+    expect(&rt, comes_back(&mut s, &mut store));
+    expect_words(&rt, words(&s, FIRST), [0x1000_78D7, 0x1000_5CD7]);
+    expect(&rt, is_free(&s, Seat::Slot(Slot(5))));
+    expect(&rt, bytes(&s) == [7; 4096].as_slice());
     Ok(())
 }
 
 #[test]
 fn lent_page_goes_out_with_both_entries(rt: HostRuntime) -> Result<(), Fail> {
     let mut store = MemStore::new(Vec::new(rt.alloc()));
-    assert!(rt; store.prepare(rt.alloc(), 16, None).is_ok());
-    let Some(mut s) = two_pages(rt.alloc()) else {
-        assert!(rt; false);
+    expect(&rt, store.prepare(rt.alloc(), 16, None).is_ok());
+    let Some(mut s) = two_pages(rt.alloc(), Seat::Frame(Frame(23))) else {
+        expect(&rt, false);
         return Ok(());
     };
     let Some(loan) = lend(&mut s, LoanKind::Shared) else {
-        assert!(rt; false);
+        expect(&rt, false);
         return Ok(());
     };
-    assert!(rt; goes_out(&mut s, &mut store));
-    assert_eq!(rt; words(&s, FIRST), [0x0000_17F2, 0x1000_5FD3]);
-    assert_eq!(rt; words(&s, MESSAGE), [0x0000_1572, 0x1000_5D53]);
+    expect(&rt, goes_out(&mut s, &mut store));
+    expect_words(&rt, words(&s, FIRST), [0x0000_17F2, 0x1000_5FD3]);
+    expect_words(&rt, words(&s, MESSAGE), [0x0000_1572, 0x1000_5D53]);
     let orphans = orphan(&mut s, loan);
-    assert_eq!(rt; words(&s, FIRST), FREE);
-    assert_eq!(rt; words(&s, MESSAGE), [0x0000_1572, 0x1000_5D53]);
-    assert!(rt; comes_back(&mut s, &mut store));
-    assert_eq!(rt; words(&s, FIRST), FREE);
-    assert_eq!(rt; words(&s, MESSAGE), [0x1000_7953, 0x1000_5D53]);
+    expect_words(&rt, words(&s, FIRST), FREE);
+    expect_words(&rt, words(&s, MESSAGE), [0x0000_1572, 0x1000_5D53]);
+    expect(&rt, comes_back(&mut s, &mut store));
+    expect_words(&rt, words(&s, FIRST), FREE);
+    expect_words(&rt, words(&s, MESSAGE), [0x1000_7953, 0x1000_5D53]);
     end(&mut s, orphans);
     Ok(())
 }
@@ -268,22 +64,22 @@ fn lent_page_goes_out_with_both_entries(rt: HostRuntime) -> Result<(), Fail> {
 #[test]
 fn mutably_lent_page_goes_out_with_both_entries(rt: HostRuntime) -> Result<(), Fail> {
     let mut store = MemStore::new(Vec::new(rt.alloc()));
-    assert!(rt; store.prepare(rt.alloc(), 16, None).is_ok());
-    let Some(mut s) = two_pages(rt.alloc()) else {
-        assert!(rt; false);
+    expect(&rt, store.prepare(rt.alloc(), 16, None).is_ok());
+    let Some(mut s) = two_pages(rt.alloc(), Seat::Frame(Frame(23))) else {
+        expect(&rt, false);
         return Ok(());
     };
     let Some(loan) = lend(&mut s, LoanKind::Exclusive) else {
-        assert!(rt; false);
+        expect(&rt, false);
         return Ok(());
     };
-    assert!(rt; goes_out(&mut s, &mut store));
-    assert_eq!(rt; words(&s, FIRST), [0x0000_1726, 0x1000_5F06]);
-    assert_eq!(rt; words(&s, MESSAGE), [0x0000_15F6, 0x1000_5DD7]);
-    assert!(rt; comes_back(&mut s, &mut store));
-    assert_eq!(rt; words(&s, FIRST), [0x1000_7B06, 0x1000_5F06]);
-    assert_eq!(rt; words(&s, MESSAGE), [0x1000_79D7, 0x1000_5DD7]);
+    expect(&rt, goes_out(&mut s, &mut store));
+    expect_words(&rt, words(&s, FIRST), [0x0000_1726, 0x1000_5F06]);
+    expect_words(&rt, words(&s, MESSAGE), [0x0000_15F6, 0x1000_5DD7]);
+    expect(&rt, comes_back(&mut s, &mut store));
+    expect_words(&rt, words(&s, FIRST), [0x1000_7B06, 0x1000_5F06]);
+    expect_words(&rt, words(&s, MESSAGE), [0x1000_79D7, 0x1000_5DD7]);
     end(&mut s, loan);
-    assert_eq!(rt; words(&s, FIRST), [0x1000_78D7, 0x1000_5CD7]);
+    expect_words(&rt, words(&s, FIRST), [0x1000_78D7, 0x1000_5CD7]);
     Ok(())
 }

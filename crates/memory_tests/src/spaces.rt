@@ -6,6 +6,7 @@ ghost use Rattle.sv32_space.specs.Spaces.{IsMade};
 ghost use Rattle.sv32_space.specs.SpelledEntries.{IsEntry};
 ghost use Rattle.sv32_space.specs.declared.sides.EntryKind.TheVariants.{Here};
 
+use crate::expecting::{expect, expect_walked, expect_word};
 use phys_pages::{Ram, Seat};
 use sv32_space::{
     Entry, EntryKind, Side, Walked, entry_at, entry_of, kind_of, leaf, new_space, root_of,
@@ -27,23 +28,27 @@ fn here(side: Side, ppn: u32) -> EntryKind
 #[test]
 fn entry_words(rt: HostRuntime) {
     let ppn = 0x4_0016;
-    assert_eq!(rt; entry_of(here(Side::Own(RW), ppn)), 0x1000_58D7);
-    assert_eq!(rt; entry_of(here(Side::LentOut(RW), ppn)), 0x1000_5BD3);
-    assert_eq!(rt; entry_of(here(Side::LentIn, ppn)), 0x1000_5953);
-    assert_eq!(rt; entry_of(here(Side::MutOut { x: false }, ppn)), 0x1000_5B06);
-    assert_eq!(rt; entry_of(here(Side::MutIn, ppn)), 0x1000_59D7);
+    expect_word(&rt, entry_of(here(Side::Own(RW), ppn)), 0x1000_58D7);
+    expect_word(&rt, entry_of(here(Side::LentOut(RW), ppn)), 0x1000_5BD3);
+    expect_word(&rt, entry_of(here(Side::LentIn, ppn)), 0x1000_5953);
+    expect_word(
+        &rt,
+        entry_of(here(Side::MutOut { x: false }, ppn)),
+        0x1000_5B06,
+    );
+    expect_word(&rt, entry_of(here(Side::MutIn, ppn)), 0x1000_59D7);
     let out = EntryKind::Out {
         side: Side::Own(RW),
         slot: 5,
     };
-    assert_eq!(rt; entry_of(out), 0x0000_14F6);
-    assert_eq!(rt; kind_of(0x0000_14F6), Some(out));
-    assert_eq!(rt; kind_of(0x1000_59D7), Some(here(Side::MutIn, ppn)));
-    assert_eq!(rt; kind_of(0), Some(EntryKind::Free));
-    assert_eq!(rt; kind_of(0x0000_0400), None);
+    expect_word(&rt, entry_of(out), 0x0000_14F6);
+    expect(&rt, kind_of(0x0000_14F6) == Some(out));
+    expect(&rt, kind_of(0x1000_59D7) == Some(here(Side::MutIn, ppn)));
+    expect(&rt, kind_of(0) == Some(EntryKind::Free));
+    expect(&rt, kind_of(0x0000_0400) == None);
     // V with W and without R, and V with G
-    assert_eq!(rt; kind_of(0x1000_58D5), None);
-    assert_eq!(rt; kind_of(0x1000_58F7), None);
+    expect(&rt, kind_of(0x1000_58D5) == None);
+    expect(&rt, kind_of(0x1000_58F7) == None);
 }
 
 // The walk of 0x0001_2345 from the root in frame 0 with these words as the root's entry and as the entry in frame 1.
@@ -61,54 +66,64 @@ fn walked(ram: &mut Ram, root: u32, last: u32, access: Access) -> Walked
 fn roots_of_walks(rt: HostRuntime) {
     const LAST: u32 = 0x1000_08DF;
     if let Ok(mut ram) = Ram::new(rt.alloc(), START, 8) {
-        assert_eq!(rt;
+        expect_walked(
+            &rt,
             walked(&mut ram, 0x1000_0401, LAST, Access::Load),
-            Walked::Reaches(0x4000_2345)
+            Walked::Reaches(0x4000_2345),
         );
         // V is 0
-        assert_eq!(rt;
+        expect_walked(
+            &rt,
             walked(&mut ram, 0x1000_0400, LAST, Access::Load),
-            Walked::PageFault
+            Walked::PageFault,
         );
         // W without R
-        assert_eq!(rt;
+        expect_walked(
+            &rt,
             walked(&mut ram, 0x1000_0405, LAST, Access::Load),
-            Walked::PageFault
+            Walked::PageFault,
         );
         // a pointer with U, with A and with D
-        assert_eq!(rt;
+        expect_walked(
+            &rt,
             walked(&mut ram, 0x1000_0411, LAST, Access::Load),
-            Walked::PageFault
+            Walked::PageFault,
         );
-        assert_eq!(rt;
+        expect_walked(
+            &rt,
             walked(&mut ram, 0x1000_0441, LAST, Access::Load),
-            Walked::PageFault
+            Walked::PageFault,
         );
-        assert_eq!(rt;
+        expect_walked(
+            &rt,
             walked(&mut ram, 0x1000_0481, LAST, Access::Load),
-            Walked::PageFault
+            Walked::PageFault,
         );
         // a table outside RAM
-        assert_eq!(rt;
+        expect_walked(
+            &rt,
             walked(&mut ram, 0x1000_2001, LAST, Access::Load),
-            Walked::PageFault
+            Walked::PageFault,
         );
         // a leaf of 4 MiB, and one that is misaligned
-        assert_eq!(rt;
+        expect_walked(
+            &rt,
             walked(&mut ram, 0x1000_00DF, LAST, Access::Load),
-            Walked::Reaches(0x4001_2345)
+            Walked::Reaches(0x4001_2345),
         );
-        assert_eq!(rt;
+        expect_walked(
+            &rt,
             walked(&mut ram, 0x1000_04DF, LAST, Access::Load),
-            Walked::PageFault
+            Walked::PageFault,
         );
         // a root outside RAM
-        assert_eq!(rt;
+        expect_walked(
+            &rt,
             walk(&ram, Frame(8), 0x0001_2345, Access::Load),
-            Walked::PageFault
+            Walked::PageFault,
         );
     } else {
-        assert!(rt; false);
+        expect(&rt, false);
     }
 }
 
@@ -118,63 +133,75 @@ fn leaves_of_walks(rt: HostRuntime) {
     const ROOT: u32 = 0x1000_0401;
     if let Ok(mut ram) = Ram::new(rt.alloc(), START, 8) {
         // the greatest physical address has 34 bits
-        assert_eq!(rt;
+        expect_walked(
+            &rt,
             walked(&mut ram, ROOT, 0xFFFF_FCDF, Access::Store),
-            Walked::Reaches(0x3_FFFF_F345)
+            Walked::Reaches(0x3_FFFF_F345),
         );
         // V is 0
-        assert_eq!(rt;
+        expect_walked(
+            &rt,
             walked(&mut ram, ROOT, 0x1000_08DE, Access::Load),
-            Walked::PageFault
+            Walked::PageFault,
         );
         // W without R
-        assert_eq!(rt;
+        expect_walked(
+            &rt,
             walked(&mut ram, ROOT, 0x1000_08DD, Access::Fetch),
-            Walked::PageFault
+            Walked::PageFault,
         );
         // a pointer
-        assert_eq!(rt;
+        expect_walked(
+            &rt,
             walked(&mut ram, ROOT, 0x1000_0801, Access::Load),
-            Walked::PageFault
+            Walked::PageFault,
         );
         // U is 0
-        assert_eq!(rt;
+        expect_walked(
+            &rt,
             walked(&mut ram, ROOT, 0x1000_08CF, Access::Load),
-            Walked::PageFault
+            Walked::PageFault,
         );
         // R for a load, W for a store, X for a fetch
-        assert_eq!(rt;
+        expect_walked(
+            &rt,
             walked(&mut ram, ROOT, 0x1000_08D9, Access::Fetch),
-            Walked::Reaches(0x4000_2345)
+            Walked::Reaches(0x4000_2345),
         );
-        assert_eq!(rt;
+        expect_walked(
+            &rt,
             walked(&mut ram, ROOT, 0x1000_08D9, Access::Load),
-            Walked::PageFault
+            Walked::PageFault,
         );
-        assert_eq!(rt;
+        expect_walked(
+            &rt,
             walked(&mut ram, ROOT, 0x1000_08D3, Access::Store),
-            Walked::PageFault
+            Walked::PageFault,
         );
-        assert_eq!(rt;
+        expect_walked(
+            &rt,
             walked(&mut ram, ROOT, 0x1000_08D7, Access::Fetch),
-            Walked::PageFault
+            Walked::PageFault,
         );
         // A is 0
-        assert_eq!(rt;
+        expect_walked(
+            &rt,
             walked(&mut ram, ROOT, 0x1000_089F, Access::Load),
-            Walked::PageFault
+            Walked::PageFault,
         );
         // D is 0, before a store alone
-        assert_eq!(rt;
+        expect_walked(
+            &rt,
             walked(&mut ram, ROOT, 0x1000_085F, Access::Load),
-            Walked::Reaches(0x4000_2345)
+            Walked::Reaches(0x4000_2345),
         );
-        assert_eq!(rt;
+        expect_walked(
+            &rt,
             walked(&mut ram, ROOT, 0x1000_085F, Access::Store),
-            Walked::PageFault
+            Walked::PageFault,
         );
     } else {
-        assert!(rt; false);
+        expect(&rt, false);
     }
 }
 
@@ -194,36 +221,41 @@ fn space_of_process_3(rt: HostRuntime) {
     if let Ok(mut ram) = Ram::new(rt.alloc(), START, 43) {
         ram.set_word(START + 22 * 4096 + 4 * 0x11, 0x1000_58D7);
         let root = root_of(Pid(3));
-        assert_eq!(rt; root, Frame(21));
+        expect(&rt, root == Frame(21));
         new_space(&mut ram, root);
-        assert_eq!(rt; ram.word(START + 21 * 4096), 0x1000_5801);
-        assert_eq!(rt; ram.word(START + 21 * 4096 + 4 * 511), 0x1000_A401);
-        assert_eq!(rt; leaf(&ram, FIRST), 0);
+        expect_word(&rt, ram.word(START + 21 * 4096), 0x1000_5801);
+        expect_word(&rt, ram.word(START + 21 * 4096 + 4 * 511), 0x1000_A401);
+        expect_word(&rt, leaf(&ram, FIRST), 0);
         let word = entry_of(here(Side::LentOut(RW), 0x4_002A));
         set_leaf(&mut ram, FIRST, word);
         set_leaf(&mut ram, LAST, entry_of(here(Side::MutIn, 0x4_002A)));
-        assert_eq!(rt; leaf(&ram, FIRST), word);
-        assert_eq!(rt; ram.word(START + 22 * 4096 + 4 * 0x10), word);
-        assert_eq!(rt; ram.word(START + 22 * 4096 + 4 * 0x11), 0);
-        assert_eq!(rt;
+        expect_word(&rt, leaf(&ram, FIRST), word);
+        expect_word(&rt, ram.word(START + 22 * 4096 + 4 * 0x10), word);
+        expect_word(&rt, ram.word(START + 22 * 4096 + 4 * 0x11), 0);
+        expect_walked(
+            &rt,
             walk(&ram, root, 0x0001_0123, Access::Load),
-            Walked::Reaches(0x4002_A123)
+            Walked::Reaches(0x4002_A123),
         );
-        assert_eq!(rt;
+        expect_walked(
+            &rt,
             walk(&ram, root, 0x0001_0123, Access::Store),
-            Walked::PageFault
+            Walked::PageFault,
         );
-        assert_eq!(rt;
+        expect_walked(
+            &rt,
             walk(&ram, root, 0x7FFF_FFFC, Access::Store),
-            Walked::Reaches(0x4002_AFFC)
+            Walked::Reaches(0x4002_AFFC),
         );
-        assert_eq!(rt;
+        expect_walked(
+            &rt,
             walk(&ram, root, 0x0001_1000, Access::Load),
-            Walked::PageFault
+            Walked::PageFault,
         );
-        assert_eq!(rt;
+        expect_walked(
+            &rt,
             walk(&ram, root, 0x0000_F000, Access::Load),
-            Walked::PageFault
+            Walked::PageFault,
         );
         set_leaf(
             &mut ram,
@@ -233,12 +265,13 @@ fn space_of_process_3(rt: HostRuntime) {
                 slot: 0,
             }),
         );
-        assert_eq!(rt;
+        expect_walked(
+            &rt,
             walk(&ram, root, 0x7FFF_FFFC, Access::Store),
-            Walked::PageFault
+            Walked::PageFault,
         );
     } else {
-        assert!(rt; false);
+        expect(&rt, false);
     }
 }
 
@@ -272,20 +305,26 @@ fn entries_of_places(rt: HostRuntime) {
             side: Side::LentOut(RW),
             seat: Seat::Frame(Frame(40)),
         };
-        assert_eq!(rt; written(&mut ram, here), [Some(here), Some(Entry::Free)]);
+        expect(
+            &rt,
+            written(&mut ram, here) == [Some(here), Some(Entry::Free)],
+        );
         let out = Entry::At {
             side: Side::MutIn,
             seat: Seat::Slot(Slot(5)),
         };
-        assert_eq!(rt; written(&mut ram, out), [Some(out), Some(Entry::Free)]);
-        let console = Entry::OnConsole { w: true };
-        assert_eq!(rt;
-            written(&mut ram, console),
-            [Some(console), Some(Entry::Free)]
+        expect(
+            &rt,
+            written(&mut ram, out) == [Some(out), Some(Entry::Free)],
         );
-        assert_eq!(rt;
-            written(&mut ram, Entry::Free),
-            [Some(Entry::Free), Some(Entry::Free)]
+        let console = Entry::OnConsole { w: true };
+        expect(
+            &rt,
+            written(&mut ram, console) == [Some(console), Some(Entry::Free)],
+        );
+        expect(
+            &rt,
+            written(&mut ram, Entry::Free) == [Some(Entry::Free), Some(Entry::Free)],
         );
     }
 }

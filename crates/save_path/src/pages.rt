@@ -20,7 +20,7 @@ use crate::places::{PLACES_OF_PROCESS, place_at};
 use phys_pages::LoanInfo;
 use suspend_image::{OrphanRow, PageRow, Sheet, write_orphan_words, write_page_words};
 use vm_memory::{Here, Memory};
-use xk_base::{Access, Failed, LoanKind, Number, Pid, Place, Right};
+use xk_base::{Access, Failed, LoanKind, Number, Place, Right};
 use xk_ports::SwapStore;
 
 fn loan_number(kind: LoanKind) -> u32

@@ -15,7 +15,7 @@ use msg_queue::Queues;
 use server_table::Servers;
 use syscall_codec::{Reply, reply_words};
 use thread_table::{ThreadState, Threads};
-use xk_base::{Log, Sid, ThreadId, What, XousError};
+use xk_base::{Log, Sid, ThreadId, XousError};
 use xk_parts::{Seated, own_server, pass, wait};
 
 /// A thread asks for a message of the server with that identifier, which is one of its process: it

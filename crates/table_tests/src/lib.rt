@@ -5,6 +5,8 @@
 #[cfg(test)]
 mod claims;
 #[cfg(test)]
+mod expecting;
+#[cfg(test)]
 mod processes;
 #[cfg(test)]
 mod servers;

@@ -1,5 +1,6 @@
 //! The words of each call and reply, both ways.
 
+use crate::expecting::expect_numbers;
 use bitflags::Flags;
 use std::process::Abort;
 use syscall_codec::{Call, MapFlags, Reply, call_words, can_wait, read_call, reply_words};
@@ -134,30 +135,35 @@ fn thread_calls(rt: HostRuntime) {
     expect_both_ways(&rt, [43, 0, 0, 0, 0, 0, 0, 0], Call::GetProcessId, false);
 }
 
+/// What the words ask for.
+fn expect_call(rt: &impl Abort, words: [u32; 8], wanted: Result<Call, XousError>) {
+    assert_eq!(rt; read_call(words), wanted);
+}
+
 #[test]
 fn other_words(rt: HostRuntime) {
-    let unhandled = Err(XousError::UnhandledSyscall);
-    assert_eq!(rt; read_call([1, 0, 0, 0, 0, 0, 0, 0]), unhandled);
-    assert_eq!(rt; read_call([0, 0, 0, 0, 0, 0, 0, 0]), unhandled);
-    assert_eq!(rt; read_call([45, 0, 0, 0, 0, 0, 0, 0]), unhandled);
-    assert_eq!(rt; read_call([3, 9, 9, 9, 9, 9, 9, 9]), Ok(Call::Yield));
+    for first in [0, 1, 45] {
+        let words = [first, 0, 0, 0, 0, 0, 0, 0];
+        expect_call(&rt, words, Err(XousError::UnhandledSyscall));
+    }
+    expect_call(&rt, [3, 9, 9, 9, 9, 9, 9, 9], Ok(Call::Yield));
+}
+
+fn expect_reply(rt: &impl Abort, reply: Reply, words: [u32; 8]) {
+    expect_numbers(rt, &reply_words(&reply), &words);
 }
 
 #[test]
 fn replies(rt: HostRuntime) {
-    assert_eq!(rt; reply_words(&Reply::Plain), [0, 0, 0, 0, 0, 0, 0, 0]);
+    expect_reply(&rt, Reply::Plain, [0, 0, 0, 0, 0, 0, 0, 0]);
     let refused = Reply::Refused(XousError::ShareViolation);
-    assert_eq!(rt; reply_words(&refused), [1, 19, 0, 0, 0, 0, 0, 0]);
+    expect_reply(&rt, refused, [1, 19, 0, 0, 0, 0, 0, 0]);
     let range = Reply::Range(0x6000_0000, 4096);
-    assert_eq!(rt; reply_words(&range), [3, 0x6000_0000, 4096, 0, 0, 0, 0, 0]);
-    assert_eq!(rt;
-        reply_words(&Reply::Connection(Cid(2))),
-        [7, 2, 0, 0, 0, 0, 0, 0]
-    );
-    assert_eq!(rt;
-        reply_words(&Reply::NewServer(SID, Cid(2))),
-        [19, 1, 2, 3, 4, 2, 0, 0]
-    );
+    expect_reply(&rt, range, [3, 0x6000_0000, 4096, 0, 0, 0, 0, 0]);
+    let connection = Reply::Connection(Cid(2));
+    expect_reply(&rt, connection, [7, 2, 0, 0, 0, 0, 0, 0]);
+    let server = Reply::NewServer(SID, Cid(2));
+    expect_reply(&rt, server, [19, 1, 2, 3, 4, 2, 0, 0]);
     let message = Message {
         number: Number(1),
         sender: Some(ThreadId {
@@ -170,28 +176,21 @@ fn replies(rt: HostRuntime) {
         first: Vpn(0x4_0000),
         count: 1,
     };
-    assert_eq!(rt;
-        reply_words(&Reply::Got(message)),
-        [9, 1, 2, 7, 0x4000_0000, 4096, 0, 0]
-    );
-    assert_eq!(rt;
-        reply_words(&Reply::Thread(Tid(3))),
-        [10, 3, 0, 0, 0, 0, 0, 0]
-    );
-    assert_eq!(rt; reply_words(&Reply::Scalar1(8)), [14, 8, 0, 0, 0, 0, 0, 0]);
-    assert_eq!(rt;
-        reply_words(&Reply::Scalar2(8, 9)),
-        [15, 8, 9, 0, 0, 0, 0, 0]
-    );
-    assert_eq!(rt;
-        reply_words(&Reply::Returned(7, 9)),
-        [18, 7, 9, 0, 0, 0, 0, 0]
-    );
+    let got = Reply::Got(message);
+    expect_reply(&rt, got, [9, 1, 2, 7, 0x4000_0000, 4096, 0, 0]);
+    expect_reply(&rt, Reply::Thread(Tid(3)), [10, 3, 0, 0, 0, 0, 0, 0]);
+    expect_reply(&rt, Reply::Scalar1(8), [14, 8, 0, 0, 0, 0, 0, 0]);
+    expect_reply(&rt, Reply::Scalar2(8, 9), [15, 8, 9, 0, 0, 0, 0, 0]);
+    expect_reply(&rt, Reply::Returned(7, 9), [18, 7, 9, 0, 0, 0, 0, 0]);
 }
 
 #[test]
 fn flags(rt: HostRuntime) {
-    assert_eq!(rt; MapFlags::from_bits(6), Some(MapFlags::R | MapFlags::W));
-    assert_eq!(rt; MapFlags::from_bits(31), Some(MapFlags::all()));
-    assert_eq!(rt; MapFlags::from_bits(32), None);
+    for (bits, flags) in [
+        (6, Some(MapFlags::R | MapFlags::W)),
+        (31, Some(MapFlags::all())),
+        (32, None),
+    ] {
+        assert_eq!(rt; MapFlags::from_bits(bits), flags);
+    }
 }

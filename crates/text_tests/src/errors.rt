@@ -1,9 +1,13 @@
 //! The codes of errors.
 
+use crate::expecting::expect_numbers;
 use xk_base::XousError;
 
 #[test]
 fn codes(rt: HostRuntime) {
-    assert_eq!(rt; XousError::BadAlignment.code(), 1);
-    assert_eq!(rt; XousError::InvalidLimit.code(), 27);
+    let told = [
+        XousError::BadAlignment.code(),
+        XousError::InvalidLimit.code(),
+    ];
+    expect_numbers(&rt, &told, &[1, 27]);
 }

@@ -1,5 +1,6 @@
 //! The events of a file, and its first bad line.
 
+use crate::expecting::expect;
 use event_text::{Event, EventReader, NextEvent};
 use std::process::Abort;
 use xk_base::{Pid, Tid};
@@ -19,7 +20,7 @@ fn expect_answers(rt: &impl Abort, file: &[u8], piece: usize, answers: &[NextEve
                 reader.finish();
             } else {
                 let taken = reader.feed(&rest[..rest.len().min(piece)]);
-                assert!(rt; taken > 0);
+                expect(rt, taken > 0);
                 rest = &rest[taken..];
             }
         }
@@ -38,14 +39,20 @@ fn kill(pid: u8) -> NextEvent {
 /// The line after `tick 1` is bad, and it is answered again.
 fn expect_bad(rt: &impl Abort, line: &[u8]) {
     let mut reader = EventReader::new();
-    assert_eq!(rt; reader.feed(b"tick 1\n"), 7);
-    assert_eq!(rt; reader.next(), tick(1));
-    let next = reader.next();
-    assert_eq!(rt; next, NextEvent::More);
-    assert!(rt; reader.feed(line) > 0);
+    let before = reader.feed(b"tick 1\n");
+    let first = reader.next();
+    let second = reader.next();
+    let taken = reader.feed(line);
     reader.finish();
-    assert_eq!(rt; reader.next(), NextEvent::Bad(2));
-    assert_eq!(rt; reader.next(), NextEvent::Bad(2));
+    let told = [first, second, reader.next(), reader.next()];
+    let wanted = [
+        tick(1),
+        NextEvent::More,
+        NextEvent::Bad(2),
+        NextEvent::Bad(2),
+    ];
+    assert_eq!(rt; told, wanted);
+    expect(rt, before == 7 && taken > 0);
 }
 
 #[test]

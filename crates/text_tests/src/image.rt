@@ -2,10 +2,12 @@
 
 ghost use Rattle.std.specs.Prelude.{◌≤◌, length};
 
+use crate::expecting::{expect, expect_bytes, expect_numbers};
 use kernel_args::{
     Args, ArgsError, BAD_CHECK, BAD_INI, BAD_NAMES, BAD_RAM, BAD_TOTAL, BAD_VERSION, NO_PROCESS,
     NOT_XARG, ProcArgs, ProcName, Section, TOO_SHORT, crc_x25, read_args, writable, write_args,
 };
+use std::alloc::Global;
 use std::process::Abort;
 use std::test::*;
 use xk_base::{NoMemory, Row};
@@ -32,6 +34,13 @@ const TWO_PROCESSES: [u8; 132] = [
     0x69, 0x6e, 0x69, 0x74, 0x03, 0x00, 0x00, 0x00, 0x05, 0x00, 0x00, 0x00, 0x73, 0x68, 0x65, 0x6c,
     0x6c, 0x00, 0x00, 0x00,
 ];
+
+/// The section of each process.
+const CODE: Section = Section {
+    addr: 0x1_0000,
+    size: 36,
+    flags: 4,
+};
 
 /// A word that is written, its lowest byte first, into `TWO_PROCESSES`, the check number of the tag that they belong
 /// to, and the fault that the image then has.
@@ -61,49 +70,68 @@ const fn checked(at: u8, word: u32, check: (u8, u16), fault: Option<(u8, u32)>) 
     }
 }
 
-fn put(rt: &impl Abort, image: &mut [u8], at: u8, bytes: &[u8]) {
+/// Writes bytes at a place, where there is room.
+fn put(image: &mut [u8], at: u8, bytes: &[u8]) {
     for (i, byte) in bytes.iter().enumerate() {
-        assert!(rt; i < 4);
-        let place = at as usize + i;
-        assert!(rt; place < image.len());
-        image[place] = *byte;
+        let place = (at as usize).wrapping_add(i);
+        if place < image.len() {
+            image[place] = *byte;
+        }
     }
 }
 
-fn fault_in(alloc: std::alloc::Global, bytes: &[u8]) -> Result<Option<(u8, u32)>, &'static str>
+/// The image has this fault, or none.
+fn expect_fault(
+    rt: &impl Abort,
+    alloc: Global,
+    bytes: &[u8],
+    wanted: Option<(u8, u32)>,
+) -> Result<(), &'static str>
     requires { length bytes.now ≤ 67108864 }
 {
-    match read_args(alloc, bytes) {
-        Ok(_) => Ok(None),
-        Err(ArgsError::Fault(fault)) => Ok(Some((fault.what, fault.at))),
-        Err(ArgsError::NoMemory) => Err("no memory"),
-    }
+    let told = match read_args(alloc, bytes) {
+        Ok(_) => None,
+        Err(ArgsError::Fault(fault)) => Some((fault.what, fault.at)),
+        Err(ArgsError::NoMemory) => return Err("no memory"),
+    };
+    assert_eq!(rt; told, wanted);
+    Ok(())
+}
+
+/// The row has so many words, the name and place of its RAM are those of all these images, and there are so many processes and
+/// names.
+fn expect_args(rt: &impl Abort, args: &Args, words: u32, processes: usize, names: usize) {
+    let told = [args.words, args.ram_start, args.ram_size];
+    expect_numbers(rt, &told, &[words, 0x4000_0000, 0x0100_0000]);
+    expect_bytes(rt, &args.ram_name, b"sram");
+    expect(rt, args.procs.as_slice().len() == processes);
+    expect(rt, args.names.as_slice().len() == names);
+}
+
+/// The process is loaded from here, and has these sections.
+fn expect_process(rt: &impl Abort, process: &ProcArgs, load: u32, sections: &[Section]) {
+    expect_numbers(rt, &[process.load, process.entry], &[load, 0x1_0000]);
+    assert_eq!(rt; process.sections.as_slice(), sections);
+}
+
+/// The name is that of this process.
+fn expect_name(rt: &impl Abort, told: &ProcName, pid: u32, name: &[u8]) {
+    expect_numbers(rt, &[told.pid], &[pid]);
+    expect_bytes(rt, told.name.as_slice(), name);
 }
 
 #[test]
 fn check_numbers(rt: HostRuntime) {
-    assert_eq!(rt; crc_x25(b"123456789"), 0x906E);
-    assert_eq!(rt; crc_x25(b""), 0);
+    let told = [crc_x25(b"123456789") as u32, crc_x25(b"") as u32];
+    expect_numbers(&rt, &told, &[0x906E, 0]);
 }
 
 #[test]
 fn args_of_one_process(rt: HostRuntime) -> Result<(), Fail> {
     let args = read_args(rt.alloc(), &ONE_PROCESS)?;
-    assert_eq!(rt; args.words, 13);
-    assert_eq!(rt; args.ram_start, 0x4000_0000);
-    assert_eq!(rt; args.ram_size, 0x0100_0000);
-    assert_eq!(rt; &args.ram_name, b"sram");
-    assert_eq!(rt; args.names.as_slice().len(), 0);
-    assert_eq!(rt; args.procs.as_slice().len(), 1);
+    expect_args(&rt, &args, 13, 1, 0);
     for process in args.procs.as_slice() {
-        assert_eq!(rt; process.load, 52);
-        assert_eq!(rt; process.entry, 0x1_0000);
-        let section = Section {
-            addr: 0x1_0000,
-            size: 36,
-            flags: 4,
-        };
-        assert_eq!(rt; process.sections.as_slice(), [section].as_slice());
+        expect_process(&rt, process, 52, &[CODE]);
     }
     Ok(())
 }
@@ -111,26 +139,24 @@ fn args_of_one_process(rt: HostRuntime) -> Result<(), Fail> {
 #[test]
 fn names_of_two_processes(rt: HostRuntime) -> Result<(), Fail> {
     let args = read_args(rt.alloc(), &TWO_PROCESSES)?;
-    assert_eq!(rt; args.procs.as_slice().len(), 2);
-    let names = args.names.as_slice();
-    assert_eq!(rt; names.len(), 2);
-    assert_eq!(rt; names[0].pid, 2);
-    assert_eq!(rt; names[0].name.as_slice(), b"init".as_slice());
-    assert_eq!(rt; names[1].pid, 3);
-    assert_eq!(rt; names[1].name.as_slice(), b"shell".as_slice());
+    expect_args(&rt, &args, 33, 2, 2);
+    let wanted: [(u32, &[u8]); 2] = [(2, b"init"), (3, b"shell")];
+    for (told, (pid, name)) in args.names.as_slice().iter().zip(wanted) {
+        expect_name(&rt, told, pid, name);
+    }
     Ok(())
 }
 
 #[test]
 fn cut_images(rt: HostRuntime) -> Result<(), Fail> {
     for words in 0..33usize {
-        let fault = fault_in(rt.alloc(), &TWO_PROCESSES[..words * 4])?;
         let wanted = if words < 7 {
             (TOO_SHORT, 0)
         } else {
             (BAD_TOTAL, 8)
         };
-        assert_eq!(rt; fault, Some(wanted));
+        let cut = &TWO_PROCESSES[..words * 4];
+        expect_fault(&rt, rt.alloc(), cut, Some(wanted))?;
     }
     Ok(())
 }
@@ -180,31 +206,31 @@ fn damaged_images(rt: HostRuntime) -> Result<(), Fail> {
         checked(120, 8, (100, 0x872e), None),
         checked(120, 9, (100, 0x027b), Some((BAD_NAMES, 96))),
     ];
-    assert_eq!(rt; fault_in(rt.alloc(), &TWO_PROCESSES)?, None);
+    expect_fault(&rt, rt.alloc(), &TWO_PROCESSES, None)?;
     for damage in &table {
         let mut image = TWO_PROCESSES;
-        put(&rt, &mut image, damage.at, &damage.word.to_le_bytes());
+        put(&mut image, damage.at, &damage.word.to_le_bytes());
         if let Some((at, check)) = damage.check {
-            put(&rt, &mut image, at, &check.to_le_bytes());
+            put(&mut image, at, &check.to_le_bytes());
         }
-        assert_eq!(rt; fault_in(rt.alloc(), &image)?, damage.fault);
+        expect_fault(&rt, rt.alloc(), &image, damage.fault)?;
     }
     Ok(())
 }
 
 #[test]
 fn files_without_tags(rt: HostRuntime) -> Result<(), Fail> {
-    assert_eq!(rt; fault_in(rt.alloc(), &[])?, Some((TOO_SHORT, 0)));
-    assert_eq!(rt; fault_in(rt.alloc(), &[0; 28])?, Some((NOT_XARG, 0)));
+    expect_fault(&rt, rt.alloc(), &[], Some((TOO_SHORT, 0)))?;
+    expect_fault(&rt, rt.alloc(), &[0; 28], Some((NOT_XARG, 0)))?;
     Ok(())
 }
 
 #[test]
 fn no_process(rt: HostRuntime) -> Result<(), Fail> {
     let mut image = TWO_PROCESSES;
-    put(&rt, &mut image, 40, b"IniX");
-    put(&rt, &mut image, 64, b"IniX");
-    assert_eq!(rt; fault_in(rt.alloc(), &image)?, Some((NO_PROCESS, 132)));
+    put(&mut image, 40, b"IniX");
+    put(&mut image, 64, b"IniX");
+    expect_fault(&rt, rt.alloc(), &image, Some((NO_PROCESS, 132)))?;
     Ok(())
 }
 
@@ -221,11 +247,7 @@ fn args_of(words: u32, procs: Row<ProcArgs>, names: Row<ProcName>) -> Args {
     }
 }
 
-fn process_with(
-    alloc: std::alloc::Global,
-    load: u32,
-    sections: &[Section],
-) -> Result<ProcArgs, NoMemory> {
+fn process_with(alloc: Global, load: u32, sections: &[Section]) -> Result<ProcArgs, NoMemory> {
     let mut row = Row::new(alloc);
     for section in sections {
         row.push(*section)?;
@@ -238,7 +260,7 @@ fn process_with(
     })
 }
 
-fn name_of(alloc: std::alloc::Global, pid: u32, text: &[u8]) -> Result<ProcName, NoMemory> {
+fn name_of(alloc: Global, pid: u32, text: &[u8]) -> Result<ProcName, NoMemory> {
     let mut name = Row::new(alloc);
     for byte in text {
         name.push(*byte)?;
@@ -246,20 +268,14 @@ fn name_of(alloc: std::alloc::Global, pid: u32, text: &[u8]) -> Result<ProcName,
     Ok(ProcName { pid, name })
 }
 
-const CODE: Section = Section {
-    addr: 0x1_0000,
-    size: 36,
-    flags: 4,
-};
-
 #[test]
 fn one_process_is_written(rt: HostRuntime) -> Result<(), Fail> {
     let mut procs = Row::new(rt.alloc());
     procs.push(process_with(rt.alloc(), 52, &[CODE])?)?;
     let args = args_of(13, procs, Row::new(rt.alloc()));
-    assert!(rt; writable(&args));
+    expect(&rt, writable(&args));
     let row = write_args(rt.alloc(), &args)?;
-    assert_eq!(rt; row.as_slice(), ONE_PROCESS.as_slice());
+    expect_bytes(&rt, row.as_slice(), &ONE_PROCESS);
     Ok(())
 }
 
@@ -270,7 +286,7 @@ fn sizes_that_can_be_written(rt: HostRuntime) -> Result<(), Fail> {
         let section = Section { size, ..CODE };
         procs.push(process_with(rt.alloc(), 52, &[section])?)?;
         let args = args_of(13, procs, Row::new(rt.alloc()));
-        assert_eq!(rt; writable(&args), fits);
+        expect(&rt, writable(&args) == fits);
     }
     Ok(())
 }
@@ -285,25 +301,16 @@ fn largest_row_is_read_back(rt: HostRuntime) -> Result<(), Fail> {
     }
     // 7 for the header, 2 + 2 + 64 for each process, 2 for the tag of names and 4 for each name
     let args = args_of(2313, procs, names);
-    assert!(rt; writable(&args));
+    expect(&rt, writable(&args));
     let row = write_args(rt.alloc(), &args)?;
-    assert_eq!(rt; row.as_slice().len(), 9252);
+    expect(&rt, row.as_slice().len() == 9252);
     let again = read_args(rt.alloc(), row.as_slice())?;
-    assert_eq!(rt; again.words, 2313);
-    assert_eq!(rt; again.procs.as_slice().len(), 32);
-    assert_eq!(rt; again.names.as_slice().len(), 32);
-    let mut load = 0;
-    for process in again.procs.as_slice() {
-        assert_eq!(rt; process.load, load);
-        assert_eq!(rt; process.entry, 0x1_0000);
-        assert_eq!(rt; process.sections.as_slice(), [CODE; 32].as_slice());
-        load = process.load.wrapping_add(1);
+    expect_args(&rt, &again, 2313, 32, 32);
+    for (i, process) in again.procs.as_slice().iter().enumerate() {
+        expect_process(&rt, process, i as u32, &[CODE; 32]);
     }
-    let mut pid = 2;
-    for name in again.names.as_slice() {
-        assert_eq!(rt; name.pid, pid);
-        assert_eq!(rt; name.name.as_slice(), b"process".as_slice());
-        pid = name.pid.wrapping_add(1);
+    for (i, name) in again.names.as_slice().iter().enumerate() {
+        expect_name(&rt, name, (i as u32).wrapping_add(2), b"process");
     }
     Ok(())
 }

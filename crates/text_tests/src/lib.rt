@@ -9,6 +9,8 @@ mod errors;
 #[cfg(test)]
 mod events;
 #[cfg(test)]
+mod expecting;
+#[cfg(test)]
 mod image;
 #[cfg(test)]
 mod lines;

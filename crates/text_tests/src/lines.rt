@@ -1,5 +1,6 @@
 //! The lines of records, and the last line.
 
+use crate::expecting::expect_bytes;
 use arrayvec::ArrayVec;
 use std::process::Abort;
 use trace_text::{EndWord, end_line, line};
@@ -13,7 +14,7 @@ const THREAD: ThreadId = ThreadId {
 fn expect_line(rt: &impl Abort, step: u32, what: What, wanted: &str) {
     let mut out = ArrayVec::new();
     line(&Rec { step, what }, &mut out);
-    assert_eq!(rt; out.as_slice(), wanted.as_bytes());
+    expect_bytes(rt, out.as_slice(), wanted.as_bytes());
 }
 
 #[test]
@@ -69,8 +70,8 @@ fn longest_record(rt: HostRuntime) {
 fn last_lines(rt: HostRuntime) {
     let mut out = ArrayVec::new();
     end_line(100, EndWord::Done, &mut out);
-    assert_eq!(rt; out.as_slice(), b"end 100 done\n".as_slice());
+    expect_bytes(&rt, out.as_slice(), b"end 100 done\n");
     let mut out = ArrayVec::new();
     end_line(50, EndWord::Limit, &mut out);
-    assert_eq!(rt; out.as_slice(), b"end 50 limit\n".as_slice());
+    expect_bytes(&rt, out.as_slice(), b"end 50 limit\n");
 }

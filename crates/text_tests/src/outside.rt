@@ -2,6 +2,7 @@
 
 ghost use Rattle.std.specs.Prelude.{◌≡◌, length};
 
+use crate::expecting::{expect, expect_bytes};
 use std::alloc::Global;
 use std::test::Fail;
 use xk_base::{Failed, Slot};
@@ -46,53 +47,62 @@ fn host(alloc: Global) -> Result<MemHost, Fail> {
 fn host_gives_files_in_pieces(rt: HostRuntime) -> Result<(), Fail> {
     let mut host = host(rt.alloc())?;
     let mut into = [0; 8];
-    assert!(rt; read_once(&mut host, "a", &mut into).is_err());
-    assert!(rt; read_once(&mut host, "a", &mut into) == Ok(3));
-    assert!(rt; into == *b"hel\0\0\0\0\0");
+    expect(&rt, read_once(&mut host, "a", &mut into).is_err());
+    expect(&rt, read_once(&mut host, "a", &mut into) == Ok(3));
+    expect(&rt, into == *b"hel\0\0\0\0\0");
     Ok(())
 }
 
 #[test]
 fn host_keeps_what_was_asked(rt: HostRuntime) -> Result<(), Fail> {
     let mut host = host(rt.alloc())?;
-    assert!(rt; host.pick_file(FileSlot::First, "b").is_err());
-    assert!(rt; host.asked_at(0).is_some());
+    expect(&rt, host.pick_file(FileSlot::First, "b").is_err());
+    expect(&rt, host.asked_at(0).is_some());
     // The names, with one byte more for each, have three bytes of room.
-    assert!(rt; host.pick_file(FileSlot::First, "a").is_err());
-    assert!(rt; host.asked_at(0).is_none());
+    expect(&rt, host.pick_file(FileSlot::First, "a").is_err());
+    expect(&rt, host.asked_at(0).is_none());
     Ok(())
 }
 
 #[test]
 fn sink_fails_at_its_calls(rt: HostRuntime) -> Result<(), Fail> {
     let mut sink = MemSink::new(rt.alloc(), 5, [2].to_vec(rt.alloc())?)?;
-    assert!(rt; put_all(&mut sink, b"abc").is_ok());
-    assert!(rt; put_all(&mut sink, b"x").is_err());
-    assert!(rt; put_all(&mut sink, b"defg").is_err());
-    assert_eq!(rt; sink.as_slice(), b"abcde".as_slice());
+    expect(&rt, put_all(&mut sink, b"abc").is_ok());
+    expect(&rt, put_all(&mut sink, b"x").is_err());
+    expect(&rt, put_all(&mut sink, b"defg").is_err());
+    expect_bytes(&rt, sink.as_slice(), b"abcde");
     Ok(())
 }
 
 #[test]
 fn sure_sink_drops_what_has_no_room(rt: HostRuntime) -> Result<(), Fail> {
     let mut sink = SureSink::new(rt.alloc(), 3)?;
-    assert!(rt; put_all(&mut sink, b"abcd").is_ok());
-    assert!(rt; !sink.is_whole());
-    assert_eq!(rt; sink.as_slice(), b"abc".as_slice());
+    expect(&rt, put_all(&mut sink, b"abcd").is_ok());
+    expect(&rt, !sink.is_whole());
+    expect_bytes(&rt, sink.as_slice(), b"abc");
     Ok(())
 }
 
 #[test]
 fn stores_keep_a_page(rt: HostRuntime) -> Result<(), Fail> {
-    assert!(rt; keeps_page(rt.alloc(), &mut SureStore::new(), &[7; 4096]) == Ok(true));
+    expect(
+        &rt,
+        keeps_page(rt.alloc(), &mut SureStore::new(), &[7; 4096]) == Ok(true),
+    );
     Ok(())
 }
 
 #[test]
 fn store_fails_at_its_calls(rt: HostRuntime) -> Result<(), Fail> {
     let mut store = MemStore::new([1].to_vec(rt.alloc())?);
-    assert!(rt; keeps_page(rt.alloc(), &mut store, &[7; 4096]) == Err(StoreFault::Failed));
-    assert!(rt; keeps_page(rt.alloc(), &mut store, &[7; 4096]) == Ok(true));
-    assert!(rt; store.preparations().len() == 2);
+    expect(
+        &rt,
+        keeps_page(rt.alloc(), &mut store, &[7; 4096]) == Err(StoreFault::Failed),
+    );
+    expect(
+        &rt,
+        keeps_page(rt.alloc(), &mut store, &[7; 4096]) == Ok(true),
+    );
+    expect(&rt, store.preparations().len() == 2);
     Ok(())
 }

@@ -3,12 +3,14 @@
 ghost use Rattle.std.specs.Prelude.{◌≡◌, ◌≤◌, ◌<◌, ◌+◌, length, All, IfOk, IfSome, IsSome};
 ghost use Rattle.kernel_args.specs.Image.{IsSoundArgs};
 
+use crate::expecting::{expect, expect_numbers};
 use boot_plan::{
     BAD_LOAD, ENTRY_OUTSIDE, LOAD_OUTSIDE, PagePlan, PlanError, RAM_TOO_SMALL, SECTION_MISALIGNED,
     SECTION_OUTSIDE, SECTIONS_OVERLAP, cap, plan,
 };
 use kernel_args::{ArgFault, Args, ProcArgs, Section};
 use std::alloc::Global;
+use std::process::Abort;
 use std::test::Fail;
 use xk_base::{NoMemory, Right, Row, Vpn};
 
@@ -110,6 +112,11 @@ fn fault(
     fault_of(alloc, &args, Some(slots))
 }
 
+/// The plan has this fault, or none. The number tells which of the plans of a test it is.
+fn expect_fault(rt: &impl Abort, at: u32, told: Option<ArgFault>, wanted: Option<ArgFault>) {
+    assert_eq!(rt; told, wanted, "at {at:x}");
+}
+
 fn at_pid(what: u8) -> Option<ArgFault> {
     Some(ArgFault { what, at: 2 })
 }
@@ -135,7 +142,7 @@ fn sections_have_their_faults(rt: HostRuntime) -> Result<(), Fail> {
     ];
     for (second, want) in cases {
         let got = fault(rt.alloc(), (4096, 0), (52, 0x1_0000, None), CODE, second)?;
-        assert_eq!(rt; got, want, "at {:x}", second.0);
+        expect_fault(&rt, second.0, got, want);
     }
     Ok(())
 }
@@ -154,7 +161,7 @@ fn starts_have_their_faults(rt: HostRuntime) -> Result<(), Fail> {
     for (start, want) in cases {
         let (load, entry) = start;
         let got = fault(rt.alloc(), (4096, 0), (load, entry, None), CODE, ZEROS)?;
-        assert_eq!(rt; got, want, "at {:x}", entry);
+        expect_fault(&rt, entry, got, want);
     }
     Ok(())
 }
@@ -171,7 +178,7 @@ fn check_word_is_of_the_sections_bytes(rt: HostRuntime) -> Result<(), Fail> {
     ];
     for (start, first, want) in cases {
         let got = fault(rt.alloc(), (4096, 0), start, first, ZEROS)?;
-        assert_eq!(rt; got, want, "at {:x}", start.1);
+        expect_fault(&rt, start.1, got, want);
     }
     Ok(())
 }
@@ -200,10 +207,10 @@ fn image_gives_slots_where_none_are_asked_for(rt: HostRuntime) -> Result<(), Fai
         what: RAM_TOO_SMALL,
         at: 0,
     });
-    assert_eq!(rt; fault_of(rt.alloc(), &silent, None)?, too_small);
-    assert_eq!(rt; fault_of(rt.alloc(), &silent, Some(9))?, None);
-    assert_eq!(rt; fault_of(rt.alloc(), &giving, None)?, None);
-    assert_eq!(rt; fault_of(rt.alloc(), &giving, Some(8))?, too_small);
+    expect_fault(&rt, 1, fault_of(rt.alloc(), &silent, None)?, too_small);
+    expect_fault(&rt, 2, fault_of(rt.alloc(), &silent, Some(9))?, None);
+    expect_fault(&rt, 3, fault_of(rt.alloc(), &giving, None)?, None);
+    expect_fault(&rt, 4, fault_of(rt.alloc(), &giving, Some(8))?, too_small);
     Ok(())
 }
 
@@ -215,14 +222,29 @@ fn full_house_needs_all_room(rt: HostRuntime) -> Result<(), Fail> {
     });
     let start = (52, 0x1_0000, None);
     let empty = (0, 0, 0);
-    assert_eq!(rt; fault(rt.alloc(), (23, 9), start, CODE, empty)?, None);
-    assert_eq!(rt; fault(rt.alloc(), (32, 0), start, CODE, empty)?, None);
-    assert_eq!(rt; fault(rt.alloc(), (23, 8), start, CODE, empty)?, too_small);
-    assert_eq!(rt;
-        fault(rt.alloc(), (22, 16_384), start, CODE, empty)?,
-        too_small
-    );
+    let got = fault(rt.alloc(), (23, 9), start, CODE, empty)?;
+    expect_fault(&rt, 1, got, None);
+    let got = fault(rt.alloc(), (32, 0), start, CODE, empty)?;
+    expect_fault(&rt, 2, got, None);
+    let got = fault(rt.alloc(), (23, 8), start, CODE, empty)?;
+    expect_fault(&rt, 3, got, too_small);
+    let got = fault(rt.alloc(), (22, 16_384), start, CODE, empty)?;
+    expect_fault(&rt, 4, got, too_small);
     Ok(())
+}
+
+/// A page of zeros that may be written.
+fn zeros(vpn: u32) -> PagePlan {
+    PagePlan {
+        vpn: Vpn(vpn),
+        right: Right { w: true, x: false },
+        from: 0,
+        len: 0,
+    }
+}
+
+fn expect_page(rt: &impl Abort, told: PagePlan, wanted: PagePlan) {
+    assert_eq!(rt; told, wanted);
 }
 
 #[test]
@@ -237,11 +259,8 @@ fn first_run_has_ten_pages(rt: HostRuntime) -> Result<(), Fail> {
     };
     let args = args(rt.alloc(), 4096, None, process).expect(&rt, "room");
     let plan = plan(rt.alloc(), &args, &file(), None).expect(&rt, "no fault");
-    assert_eq!(rt;
-        (plan.ram_start, plan.frames, plan.slots),
-        (0x4000_0000, 4096, 0)
-    );
-    assert_eq!(rt; cap(&plan), 4074);
+    let told = [plan.ram_start, plan.frames, plan.slots, cap(&plan)];
+    expect_numbers(&rt, &told, &[0x4000_0000, 4096, 0, 4074]);
     let code = PagePlan {
         vpn: Vpn(0x10),
         right: Right { w: false, x: true },
@@ -249,22 +268,18 @@ fn first_run_has_ten_pages(rt: HostRuntime) -> Result<(), Fail> {
         len: 36,
     };
     let vpns = [
-        0x7_FFF8, 0x7_FFF9, 0x7_FFFA, 0x7_FFFB, 0x7_FFFC, 0x7_FFFD, 0x7_FFFE, 0x7_FFFF, 0x7_F000,
+        0x10, 0x7_FFF8, 0x7_FFF9, 0x7_FFFA, 0x7_FFFB, 0x7_FFFC, 0x7_FFFD, 0x7_FFFE, 0x7_FFFF,
+        0x7_F000,
     ];
-    assert_eq!(rt; plan.procs.as_slice().len(), 1);
-    let process = &plan.procs.as_slice()[0];
-    assert_eq!(rt; (process.entry, process.sections), (0x1_0000, 1));
-    let pages = process.pages.as_slice();
-    assert_eq!(rt; pages.len(), 10);
-    assert_eq!(rt; pages[0], code);
-    for (page, vpn) in pages[1..].iter().zip(vpns) {
-        let zeros = PagePlan {
-            vpn: Vpn(vpn),
-            right: Right { w: true, x: false },
-            from: 0,
-            len: 0,
-        };
-        assert_eq!(rt; *page, zeros);
+    expect(&rt, plan.procs.as_slice().len() == 1);
+    for process in plan.procs.as_slice() {
+        expect_numbers(&rt, &[process.entry, process.sections], &[0x1_0000, 1]);
+        let pages = process.pages.as_slice();
+        expect(&rt, pages.len() == 10);
+        for (page, vpn) in pages.iter().zip(vpns) {
+            let wanted = if vpn == 0x10 { code } else { zeros(vpn) };
+            expect_page(&rt, *page, wanted);
+        }
     }
     Ok(())
 }

@@ -1,5 +1,6 @@
 //! The program's store over a real file.
 
+use crate::expecting::{expect, expect_bytes};
 use host_io::{ProgramStore, RealDisk};
 use std::fs;
 use std::process::Abort;
@@ -9,14 +10,12 @@ use xk_ports::{StoreFault, SwapStore};
 
 const NAME: &str = "real_store.swap";
 
-/// The bytes are just those that were wanted.
-fn expect_bytes(rt: &impl Abort, told: &[u8], wanted: &[u8]) {
-    assert_eq!(rt; told, wanted);
-}
-
 /// The bytes of the second slot's page and those behind it.
 fn expect_file(rt: &impl Abort, bytes: &[u8]) {
-    assert!(rt; bytes.len() == 8197 && bytes[4096..8192] == [5; 4096] && bytes[8192..] == [7; 5]);
+    expect(
+        rt,
+        bytes.len() == 8197 && bytes[4096..8192] == [5; 4096] && bytes[8192..] == [7; 5],
+    );
 }
 
 /// A file that is longer than its two slots gets zeros there, keeps a page at its place and keeps
@@ -48,7 +47,8 @@ fn real_store_fails(rt: HostRuntime) -> Result<(), Fail> {
     let disk = RealDisk::new(&rt);
     for name in ["no-such-folder/swap", ".", "/dev/full"] {
         let mut store = ProgramStore::new(rt.alloc(), &disk);
-        assert!(rt; store.prepare(rt.alloc(), 1, Some(name)) == Err(StoreFault::Failed));
+        let prepared = store.prepare(rt.alloc(), 1, Some(name));
+        expect(&rt, prepared == Err(StoreFault::Failed));
     }
     Ok(())
 }

@@ -1,6 +1,7 @@
 //! A sheet is written, and states are read: a small one, whose check number was computed by another
 //! program, and a saved one with a word damaged.
 
+use crate::expecting::{expect, expect_bytes, expect_numbers};
 use kernel_args::{ArgFault, crc_x25};
 use std::alloc::{AllocError, Global};
 use suspend_image::{
@@ -15,11 +16,11 @@ fn words_are_little_endian(rt: HostRuntime) {
         sheet.clear();
         sheet.push_bytes(b"ab".as_slice());
         sheet.push_word(0x0403_0201);
-        assert_eq!(rt; sheet.as_slice(), b"ab\x01\x02\x03\x04".as_slice());
+        expect_bytes(&rt, sheet.as_slice(), b"ab\x01\x02\x03\x04");
         sheet.set_word(1, 0x0807_0605);
-        assert_eq!(rt; sheet.as_slice(), b"a\x05\x06\x07\x08\x04".as_slice());
+        expect_bytes(&rt, sheet.as_slice(), b"a\x05\x06\x07\x08\x04");
     } else {
-        assert!(rt; false);
+        expect(&rt, false);
     }
 }
 
@@ -41,16 +42,16 @@ fn has_fault(bytes: &[u8], rt: &HostRuntime, what: u8, at: u32) -> bool {
 fn small_state_is_read(rt: HostRuntime) {
     match read_state(rt.alloc(), FILE.as_slice()) {
         Ok(state) => {
-            assert_eq!(rt; (state.cap, state.n, state.steps), (7, 1, 8));
-            assert_eq!(rt; (state.cursor_pid, state.cursor_tid), (2, 3));
-            assert_eq!(rt; (state.next_number, state.next_serial), (9, 4));
-            assert_eq!(rt; state.procs.as_slice().len(), 1);
+            expect_numbers(&rt, &[state.cap, state.n, state.steps], &[7, 1, 8]);
+            expect_numbers(&rt, &[state.cursor_pid, state.cursor_tid], &[2, 3]);
+            expect_numbers(&rt, &[state.next_number, state.next_serial], &[9, 4]);
+            expect(&rt, state.procs.as_slice().len() == 1);
             for row in state.procs.as_slice() {
-                assert_eq!(rt; (row.alive, row.heap), (0, 0));
+                expect_numbers(&rt, &[row.alive, row.heap], &[0, 0]);
             }
-            assert!(rt; state.orphans.as_slice().is_empty());
+            expect(&rt, state.orphans.as_slice().is_empty());
         }
-        Err(_) => assert!(rt; false),
+        Err(_) => expect(&rt, false),
     }
 }
 
@@ -60,9 +61,9 @@ fn header_is_set(rt: HostRuntime) {
         begin_state(&mut sheet);
         sheet.push_bytes(&FILE[16..]);
         finish_state(&mut sheet);
-        assert_eq!(rt; sheet.as_slice(), FILE.as_slice());
+        expect_bytes(&rt, sheet.as_slice(), &FILE);
     } else {
-        assert!(rt; false);
+        expect(&rt, false);
     }
 }
 
@@ -167,36 +168,46 @@ fn unmatched_part(rt: &HostRuntime, at: usize, word: u32) -> u32 {
 
 #[test]
 fn state_with_loan_and_orphan_is_read(rt: HostRuntime) {
-    assert_eq!(rt; unmatched_part(&rt, 99_999, 0), 0);
+    expect_numbers(&rt, &[unmatched_part(&rt, 99_999, 0)], &[0]);
 }
+
+/// A place, the word there, and the part that the state then doesn't have.
+const UNMATCHED: [(usize, u32, u32); 8] = [
+    // A home outside the windows, and an orphan of another kind than its lend.
+    (816, 1, 1),
+    (4948, 2, 2),
+    // A thread that waits for a number that no message has, and one that is Receiving at no server.
+    (244, 7, 3),
+    (528, 1, 4),
+    // A pc within an instruction, a heap of one byte, and a next number that a message has.
+    (380, 2, 6),
+    (72, 1, 7),
+    (20, 2, 8),
+    // An armed timer whose interrupt isn't claimed.
+    (28, 1, 9),
+];
 
 #[test]
 fn first_unmatched_part_is_named(rt: HostRuntime) {
-    // A home outside the windows, and an orphan of another kind than its lend.
-    assert_eq!(rt; unmatched_part(&rt, 816, 1), 1);
-    assert_eq!(rt; unmatched_part(&rt, 4948, 2), 2);
-    // A thread that waits for a number that no message has, and one that is Receiving at no server.
-    assert_eq!(rt; unmatched_part(&rt, 244, 7), 3);
-    assert_eq!(rt; unmatched_part(&rt, 528, 1), 4);
-    // A pc within an instruction, a heap of one byte, and a next number that a message has.
-    assert_eq!(rt; unmatched_part(&rt, 380, 2), 6);
-    assert_eq!(rt; unmatched_part(&rt, 72, 1), 7);
-    assert_eq!(rt; unmatched_part(&rt, 20, 2), 8);
-    // An armed timer whose interrupt isn't claimed.
-    assert_eq!(rt; unmatched_part(&rt, 28, 1), 9);
+    for (at, word, part) in UNMATCHED {
+        expect_numbers(&rt, &[unmatched_part(&rt, at, word)], &[part]);
+    }
 }
 
 #[test]
 fn first_fault_is_named(rt: HostRuntime) {
-    assert!(rt; has_fault(&[], &rt, NOT_STATE, 0));
-    assert!(rt; has_fault(&FILE[..99], &rt, STATE_LENGTH, 8));
+    expect(&rt, has_fault(&[], &rt, NOT_STATE, 0));
+    expect(&rt, has_fault(&FILE[..99], &rt, STATE_LENGTH, 8));
     let mut damaged = FILE;
     damaged[99] = 1;
-    assert!(rt; has_fault(damaged.as_slice(), &rt, STATE_CHECK, 12));
+    expect(&rt, has_fault(damaged.as_slice(), &rt, STATE_CHECK, 12));
     // A cursor of tid 0, with its check number.
     let mut without_cursor = FILE;
     without_cursor[32] = 0;
     without_cursor[12] = 0xb8;
     without_cursor[13] = 0x9b;
-    assert!(rt; has_fault(without_cursor.as_slice(), &rt, STATE_FORM, 32));
+    expect(
+        &rt,
+        has_fault(without_cursor.as_slice(), &rt, STATE_FORM, 32),
+    );
 }

@@ -11,6 +11,7 @@ ghost use Rattle.vm_memory.specs.Using.UserView.{KeepsRest};
 ghost use Rattle.xk_base.specs.declared.ids.Number.{Number};
 
 use super::WRITE;
+use crate::expecting::{expect, expect_here, expect_read, expect_stored};
 use boot_plan::{BootPlan, PagePlan, ProcPlan};
 use std::alloc::Global;
 use std::process::Abort;
@@ -160,13 +161,13 @@ fn turn<W: SwapStore>(
     ensures loans { loans (ledger W.held memory.new) ≡ loans (ledger W.held memory.old) }
 {
     let (old, new) = bytes;
-    assert_eq!(rt; byte_in(memory, at), None);
+    expect(rt, byte_in(memory, at) == None);
     let loaded = load(memory, at)?;
-    assert_eq!(rt; loaded, Some(old as u32));
-    assert_eq!(rt; byte_in(memory, at), Some(old));
+    expect_read(rt, loaded, Some(old as u32));
+    expect(rt, byte_in(memory, at) == Some(old));
     let stored = store(memory, at, new as u32)?;
-    assert_eq!(rt; stored, Stored::Done);
-    assert_eq!(rt; byte_in(memory, at), Some(new));
+    expect_stored(rt, stored, Stored::Done);
+    expect(rt, byte_in(memory, at) == Some(new));
     Ok(())
 }
 
@@ -195,20 +196,20 @@ fn round<W: SwapStore>(
 fn as_before<W: SwapStore>(rt: &impl Abort, memory: &Memory<W>)
     requires sound { IsSound W.slot_count memory.now }
 {
-    assert_eq!(rt; (memory.pages(), memory.cap()), (6, 6));
+    expect(rt, (memory.pages(), memory.cap()) == (6, 6));
     for k in 0..6 {
         let own = Here::Own {
             right: WRITE,
             console: false,
             loan: None,
         };
-        assert_eq!(rt; memory.at(place(k)), own);
+        expect_here(rt, memory.at(place(k)), own);
         let k = k as u8;
         let is_known = match byte_in(memory, place(k as u32)) {
             None => true,
             Some(byte) => [1 + k, 11 + k, 21 + k].contains(&byte),
         };
-        assert!(rt; is_known);
+        expect(rt, is_known);
     }
 }
 
@@ -238,7 +239,7 @@ fn run(rt: &impl Abort, alloc: Global, mut store: MemStore) -> (End, MemStore) {
     }
     match booted(alloc, store) {
         Err(fault) => {
-            assert_eq!(rt; fault.why, BootError::SwapFault);
+            expect(rt, fault.why == BootError::SwapFault);
             (End::NotBooted, fault.store)
         }
         Ok(mut memory) => {
@@ -268,11 +269,11 @@ fn pages_go_out_and_come_in(rt: HostRuntime) {
     for failing in 0..31 {
         if let Ok(fails) = vec![in rt.alloc(); failing] {
             let (end, store) = run(&rt, rt.alloc(), MemStore::new(fails));
-            assert_eq!(rt; end, expected(failing));
-            assert_eq!(rt; store.preparations().len(), 1);
-            assert_eq!(rt; store.slots(), if failing == 1 { 0 } else { 4 });
+            expect(&rt, end == expected(failing));
+            expect(&rt, store.preparations().len() == 1);
+            expect(&rt, store.slots() == if failing == 1 { 0 } else { 4 });
         } else {
-            assert!(rt; false);
+            expect(&rt, false);
         }
     }
 }

@@ -3,6 +3,7 @@
 ghost use Rattle.vm_memory.specs.Sound.{IsSound};
 
 use super::{PID, WRITE, at, booted};
+use crate::expecting::{expect, expect_here, expect_walked};
 use phys_pages::Ram;
 use std::process::Abort;
 use sv32_space::{Walked, root_of, walk};
@@ -29,25 +30,25 @@ fn first_pages<W: SwapStore>(rt: &impl Abort, memory: &Memory<W>)
     requires sound { IsSound W.slot_count memory.now }
 {
     let code = Right { w: false, x: true };
-    assert_eq!(rt; memory.at(at(0x10)), own(code));
-    assert_eq!(rt; memory.at(at(0x7_FFFF)), own(WRITE));
-    assert_eq!(rt; memory.at(at(0x11)), Here::Nothing);
-    assert_eq!(rt; memory.at(at(0x8_0000)), Here::Nothing);
+    expect_here(rt, memory.at(at(0x10)), own(code));
+    expect_here(rt, memory.at(at(0x7_FFFF)), own(WRITE));
+    expect_here(rt, memory.at(at(0x11)), Here::Nothing);
+    expect_here(rt, memory.at(at(0x8_0000)), Here::Nothing);
     let other = Place {
         pid: Pid(3),
         vpn: Vpn(0x10),
     };
-    assert_eq!(rt; memory.at(other), Here::Nothing);
+    expect_here(rt, memory.at(other), Here::Nothing);
     let ram = memory.ram();
-    assert_eq!(rt; code_ends(ram, 0x4_0015), Some([0x13, 0xEF, 0, 0]));
-    assert_eq!(rt; code_ends(ram, 0x4_0016), Some([0, 0, 0, 0]));
+    expect(rt, code_ends(ram, 0x4_0015) == Some([0x13, 0xEF, 0, 0]));
+    expect(rt, code_ends(ram, 0x4_0016) == Some([0, 0, 0, 0]));
     let root = root_of(PID);
     let reached = walk(ram, root, 0x1_0004, Access::Fetch);
-    assert_eq!(rt; reached, Walked::Reaches(0x4001_5004));
+    expect_walked(rt, reached, Walked::Reaches(0x4001_5004));
     let reached = walk(ram, root, 0x7FFF_FFFC, Access::Store);
-    assert_eq!(rt; reached, Walked::Reaches(0x4001_6FFC));
+    expect_walked(rt, reached, Walked::Reaches(0x4001_6FFC));
     let reached = walk(ram, root, 0x1_0004, Access::Store);
-    assert_eq!(rt; reached, Walked::PageFault);
+    expect_walked(rt, reached, Walked::PageFault);
 }
 
 #[test]
@@ -56,8 +57,8 @@ fn boot_places_the_plan(rt: HostRuntime) {
         Ok(memory) => {
             first_pages(&rt, &memory);
             let store = memory.close();
-            assert!(rt; store.preparations().is_empty());
+            expect(&rt, store.preparations().is_empty());
         }
-        Err(_) => assert!(rt; false),
+        Err(_) => expect(&rt, false),
     }
 }

@@ -24,20 +24,20 @@ const NINE_SLOTS: [u8; 80] = [
     0x00, 0x00, 0x01, 0x00, 0x34, 0x12, 0x00, 0x00, 0x00, 0x00, 0x01, 0x00, 0x24, 0x00, 0x00, 0x04,
 ];
 
+/// The image has this version and gives these slots.
+fn expect_version(rt: &impl Abort, args: &Args, version: u32, slots: Option<u32>) {
+    expect_numbers(rt, &[args.version], &[version]);
+    expect(rt, args.slots == slots);
+}
+
 #[test]
 fn args_of_version_2(rt: HostRuntime) -> Result<(), Fail> {
     let args = read_args(rt.alloc(), &ONE)?;
-    assert_eq!(rt; args.words, 14);
-    assert_eq!(rt; args.version, 2);
-    assert_eq!(rt; args.ram_start, 0x4000_0000);
-    assert_eq!(rt; args.ram_size, 0x0100_0000);
-    assert_eq!(rt; args.slots, None);
-    assert_eq!(rt; args.procs.as_slice().len(), 1);
+    expect_version(&rt, &args, 2, None);
+    expect_args(&rt, &args, 14, 1, 0);
     for process in args.procs.as_slice() {
-        assert_eq!(rt; process.load, 56);
-        assert_eq!(rt; process.entry, 0x1_0000);
-        assert_eq!(rt; process.check, Some(crc_x25(&ONE[56..])));
-        assert_eq!(rt; process.sections.as_slice(), [CODE].as_slice());
+        expect_process(&rt, process, 56, &[CODE]);
+        expect(&rt, process.check == Some(crc_x25(&ONE[56..])));
     }
     Ok(())
 }
@@ -45,12 +45,11 @@ fn args_of_version_2(rt: HostRuntime) -> Result<(), Fail> {
 #[test]
 fn slots_of_images(rt: HostRuntime) -> Result<(), Fail> {
     let args = read_args(rt.alloc(), &NINE_SLOTS)?;
-    assert_eq!(rt; args.slots, Some(9));
+    expect_version(&rt, &args, 2, Some(9));
     let mut first_version = TWO_PROCESSES;
-    put(&rt, &mut first_version, 28, b"SwpS");
+    put(&mut first_version, 28, b"SwpS");
     let args = read_args(rt.alloc(), &first_version)?;
-    assert_eq!(rt; args.version, 1);
-    assert_eq!(rt; args.slots, None);
+    expect_version(&rt, &args, 1, None);
     Ok(())
 }
 
@@ -70,21 +69,21 @@ fn damaged_images_of_version_2(rt: HostRuntime) -> Result<(), Fail> {
         checked(68, 0x1_0000, (56, 0xf486), Some((BAD_INI, 52))),
         broken(56, 0x0004d4f8, (BAD_INI, 52)),
     ];
-    assert_eq!(rt; fault_in(rt.alloc(), &NINE_SLOTS)?, None);
+    expect_fault(&rt, rt.alloc(), &NINE_SLOTS, None)?;
     for damage in &table {
         let mut image = NINE_SLOTS;
-        put(&rt, &mut image, damage.at, &damage.word.to_le_bytes());
+        put(&mut image, damage.at, &damage.word.to_le_bytes());
         if let Some((at, check)) = damage.check {
-            put(&rt, &mut image, at, &check.to_le_bytes());
+            put(&mut image, at, &check.to_le_bytes());
         }
-        assert_eq!(rt; fault_in(rt.alloc(), &image)?, damage.fault);
+        expect_fault(&rt, rt.alloc(), &image, damage.fault)?;
     }
     Ok(())
 }
 
 /// An image whose row has this many words and this check number of its `XArg`, of equal processes.
 fn equal_processes(
-    alloc: std::alloc::Global,
+    alloc: Global,
     words: u16,
     check: u16,
     of_one: &[u8],
@@ -128,7 +127,7 @@ fn most_processes(rt: HostRuntime) -> Result<(), Fail> {
         assert!(rt; of_one.len() >= 52);
         let image = equal_processes(rt.alloc(), words, check, of_one, count)?;
         assert!(rt; image.as_slice().len() <= 2000);
-        assert_eq!(rt; fault_in(rt.alloc(), image.as_slice())?, fault);
+        expect_fault(&rt, rt.alloc(), image.as_slice(), fault)?;
     }
     Ok(())
 }

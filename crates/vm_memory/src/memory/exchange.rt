@@ -27,7 +27,7 @@ use phys_pages::Seat;
 use sv32_space::{Entry, Side};
 use swap_map::{bring, evict};
 use xk_base::limits::{PAGE_SIZE, TABLE_FRAMES};
-use xk_base::{Access, Failed, Frame, LoanKind, Pid, Place, Right, Slot, Vpn};
+use xk_base::{Access, Failed, Frame, Pid, Place, Right, Slot, Vpn};
 use xk_ports::SwapStore;
 
 // Whether an owner whose page isn't on loan has the access.

@@ -12,7 +12,6 @@ ghost use Rattle.xk_base.specs.declared.ids.Number.{Number};
 
 use crate::memory::{Here, Memory};
 use phys_pages::Ram;
-use xk_base::Place;
 use xk_base::limits::TABLE_FRAMES;
 use xk_ports::SwapStore;
 

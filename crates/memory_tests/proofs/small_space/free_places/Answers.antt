@@ -2,8 +2,8 @@ use Rattle.std.proofs.Common.{rules, sym, refl, ◌∙◌, ◌≡◌, Some}
 use Rattle.sv32_space.specs.SpelledEntries.{entries}
 use Rattle.xk_base.specs.declared.windows.Window.TheVariants.{Message}
 use Rattle.loan_flags.specs.FreeRuns.{least_free}
-use Rattle.loan_flags.proofs.TestSpaceLemmas.{places_free, places_lie, small_made}
-use Rattle.memory_tests.proofs.loan_runs.free_places.Goals as goal
+use Rattle.memory_tests.proofs.SmallSpaceLemmas.{places_free, places_lie, small_made}
+use Rattle.memory_tests.proofs.small_space.free_places.Goals as goal
 
 pub free_run-requires-clause-made : goal.free_run-requires-clause-made
 free_run-requires-clause-made c = small_made c.s.inside.ram c.s.inside.owners c.s.invariant.0 c.s.invariant.1

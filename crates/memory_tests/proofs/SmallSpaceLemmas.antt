@@ -1,4 +1,4 @@
--- The small memory of the tests: one process, the frames 21 to 63, and 16 slots.
+-- The small memory of `small_space`: one process, the frames 21 to 63, and 16 slots.
 use Rattle.std.proofs.Common.{◌≡◌, ℕ, ◌≤◌, true, Some, None, refl, sym, ap, subst, ◌∙◌, arith}
 use Rattle.std.proofs.lemmas.Bool.{and_parts}
 use Rattle.std.proofs.lemmas.Bool.Decides.{nat_tests}
@@ -12,16 +12,19 @@ use Rattle.xk_base.specs.declared.pages.Right.{Right}
 use Rattle.phys_pages.specs.declared.infos.Seat.{Seat}
 use Rattle.phys_pages.specs.Owners.{Extent, OwnerTable, extent, infos, no_infos}
 use Rattle.phys_pages.specs.Ram.{RamBytes, area}
+use Rattle.ledger_model.specs.Loans.{LoanRun, Stands, bare}
 use Rattle.ledger_model.specs.Places.{in_run, is_place_in, is_user_place}
+use Rattle.ledger_model.proofs.Stepping.WritingLemmas.{bare-loans}
 use Rattle.sv32_space.specs.Agreement.{Agrees, Infos, on_loan, owned_by, procs_of}
 use Rattle.sv32_space.specs.declared.sides.Entry.TheVariants.{At, Free}
 use Rattle.sv32_space.specs.declared.sides.Side.TheVariants.{Own}
-use Rattle.sv32_space.specs.EntryLoans.{IsUnlent}
+use Rattle.sv32_space.specs.EntryLoans.{IsUnlent, StandsIn}
 use Rattle.sv32_space.specs.PageChanges.{with_entry, with_info}
 use Rattle.sv32_space.specs.Spaces.{IsMade, root_at}
 use Rattle.sv32_space.specs.SpelledEntries.{entries}
-use Rattle.sv32_space.specs.Tie.{agrees}
+use Rattle.sv32_space.specs.Tie.{Held, agrees, bytes_at, ledger_in}
 use Rattle.sv32_space.proofs.Agreeing.EmptyAgreementLemmas.{empty_agrees}
+use Rattle.sv32_space.proofs.Agreeing.LoanStandingLemmas.{in_stands, stands_in}
 use Rattle.sv32_space.proofs.Agreeing.PageAgreementLemmas.{make_agrees}
 use Rattle.sv32_space.proofs.EntryLemmas.{no_entry_elsewhere}
 use Rattle.loan_flags.specs.FreeRuns.{least_free}
@@ -99,3 +102,13 @@ module _ (t : Tables) (ram : RamBytes) (owners : OwnerTable) (view : tables ram 
       subst (λ (x : Extent). is_place_in (procs_of x) Message p ≡ true) extents
       (least_lies (procs_of (extent owners)) (entries_of (tables ram owners)) (infos owners) agree.entries (record { 0 = 2 }) Message 2 v
       (small_process owners extents) least_told p (subst (λ (q : Place). in_run q 2 p ≡ true) is h))
+
+-- ---- loans stand over an exchange
+
+pub loan_stands : (ram two : RamBytes) (owners left : OwnerTable) → agrees ram owners → agrees two left → (held now : Held)
+    → bare (ledger_in two left now) ≡ bare (ledger_in ram owners held) → (loan : LoanRun)
+    → StandsIn (entries_of (tables ram owners)) (infos owners) loan → StandsIn (entries_of (tables two left)) (infos left) loan
+loan_stands ram two owners left agree agreed held now same loan stands =
+    stands_in (procs_of (extent left)) (entries_of (tables two left)) (infos left) (bytes_at two now) agreed.entries loan
+    (subst (λ l. Stands l loan) (sym (bare-loans (ledger_in ram owners held) (ledger_in two left now) same))
+    (in_stands (procs_of (extent owners)) (entries_of (tables ram owners)) (infos owners) (bytes_at ram held) agree.entries loan stands))

@@ -1,8 +1,8 @@
 use Rattle.std.proofs.Common.{ap, ◌∙◌}
 use Rattle.phys_pages.specs.Ram.{Area}
 use Rattle.phys_pages.proofs.PageLemmas.{area-with_page}
-use Rattle.loan_flags.proofs.TestSpaceLemmas.{empty_space_agrees}
-use Rattle.memory_tests.proofs.slots.empty.Goals as goal
+use Rattle.memory_tests.proofs.SmallSpaceLemmas.{empty_space_agrees}
+use Rattle.memory_tests.proofs.small_space.empty.Goals as goal
 
 pub invariant_of-result : goal.invariant_of-result
 invariant_of-result c = (

@@ -3,8 +3,8 @@ use Rattle.phys_pages.specs.Owners.{extent, infos}
 use Rattle.sv32_space.specs.Agreement.{procs_of}
 use Rattle.sv32_space.specs.declared.sides.Entry.TheVariants.{Free}
 use Rattle.loan_flags.specs.Keeping.{entries_of, tables}
-use Rattle.loan_flags.proofs.TestSpaceLemmas.{home_process, page_agrees}
-use Rattle.memory_tests.proofs.slots.put.Goals as goal
+use Rattle.memory_tests.proofs.SmallSpaceLemmas.{home_process, page_agrees}
+use Rattle.memory_tests.proofs.small_space.put.Goals as goal
 
 pub invariant_of-s : goal.invariant_of-s
 invariant_of-s c =

@@ -3,13 +3,13 @@ use Rattle.xk_ports.specs.Pages.{contents_of}
 use Rattle.phys_pages.specs.Owners.{infos}
 use Rattle.sv32_space.specs.EntryLoans.{StandsIn}
 use Rattle.loan_flags.specs.Keeping.{entries_of}
-use Rattle.swap_map.proofs.TestLemmas.{loan_stands}
-use Rattle.memory_tests.proofs.slots.comes_back.Goals as goal
+use Rattle.memory_tests.proofs.SmallSpaceLemmas.{loan_stands}
+use Rattle.memory_tests.proofs.small_space.goes_out.Goals as goal
 
 pub returns : goal.returns
 returns c = record {
   loans = λ loan stands.
-      loan_stands c.s.inside.ram c.bring.new.ram c.s.inside.owners c.bring.new.owners c.s.invariant.0 c.bring.ensures.agrees
-      (Some (contents_of c.args.store.now.pages.bytes)) (Some (contents_of c.bring.new.store.pages.bytes)) c.bring.ensures.rights loan
+      loan_stands c.s.inside.ram c.evict.new.ram c.s.inside.owners c.evict.new.owners c.s.invariant.0 c.evict.ensures.agrees
+      (Some (contents_of c.args.store.now.pages.bytes)) (Some (contents_of c.evict.new.store.pages.bytes)) c.evict.ensures.rights loan
       (subst (λ t. StandsIn (entries_of t) (infos t.owners) loan) (sym c.s.view_is) stands);
 }

@@ -1,0 +1,26 @@
+//! What is expected of a call's answer. Each assertion takes a proof wherever it stands, which costs more than a call, so tests
+//! call those of this file.
+
+use std::process::Abort;
+use xk_base::{Pid, Serial, ThreadId, Tid};
+
+/// It is so.
+pub fn expect(rt: &impl Abort, is_so: bool) {
+    assert!(rt; is_so);
+}
+
+pub fn expect_thread(rt: &impl Abort, told: Option<ThreadId>, wanted: Option<ThreadId>) {
+    assert_eq!(rt; told, wanted);
+}
+
+pub fn expect_tid(rt: &impl Abort, told: Option<Tid>, wanted: Option<Tid>) {
+    assert_eq!(rt; told, wanted);
+}
+
+pub fn expect_serial(rt: &impl Abort, told: Option<Serial>, wanted: Option<Serial>) {
+    assert_eq!(rt; told, wanted);
+}
+
+pub fn expect_pid(rt: &impl Abort, told: Option<Pid>, wanted: Option<Pid>) {
+    assert_eq!(rt; told, wanted);
+}
