@@ -8,7 +8,6 @@ use Rattle.phys_pages.specs.Owners.{OwnerTable, extent, infos, frame_seat, slot_
 use Rattle.sv32_space.specs.declared.sides.Entry.{Entry}
 use Rattle.sv32_space.specs.declared.sides.Entry.TheVariants.{Free, At, OnConsole}
 use Rattle.sv32_space.specs.SpelledEntries.{entries}
-use Rattle.sv32_space.specs.Tie.{Held}
 use Rattle.xk_ports.specs.declared.store.SwapStore.{Ghosts as SwapStore}
 use Rattle.xk_ports.specs.Keeping.{tells_truly}
 use Rattle.vm_memory.specs.declared.memory.Memory.{Memory}

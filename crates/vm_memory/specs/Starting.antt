@@ -12,7 +12,7 @@ use Rattle.sv32_space.specs.Tie.{Held}
 use Rattle.xk_ports.specs.declared.store.SwapStore.{Ghosts as SwapStore}
 use Rattle.xk_ports.specs.Keeping.{KeepsStore}
 use Rattle.vm_memory.specs.declared.memory.Memory.{Memory}
-use Rattle.vm_memory.specs.Bytes.{MeansBytesOver, none_out}
+use Rattle.vm_memory.specs.Bytes.{MeansBytesOver, none_out, used_frames}
 use Rattle.vm_memory.specs.FirstLedger.{first_page}
 use Rattle.vm_memory.specs.Memory.{frames_for_pages, ledger, size, store_of}
 use Rattle.vm_memory.specs.Sound.{IsSound}
@@ -28,9 +28,10 @@ pub record FillsFirstFrames {W : Type 0} (m : Memory W) : Type 0 where
   pub none : none_out m ≡ true
   pub free : AreFreeFrom m.owners m.pages
 
--- .. as they do while there aren't more pages than frames for them
-abbrev pub FillsInOrder : {W : Type 0} → Memory W → Type 0
-FillsInOrder m = m.pages ≤ frames_for_pages m → FillsFirstFrames m
+-- .. as they do while there are frames for all pages; when there are more, one frame alone is free
+pub record FillsInOrder {W : Type 0} (m : Memory W) : Type 0 where
+  pub first : m.pages ≤ frames_for_pages m → FillsFirstFrames m
+  pub past : frames_for_pages m < m.pages → used_frames m.owners ≡ frames_for_pages m
 
 -- ---- what is placed
 

@@ -110,7 +110,7 @@ module _ {W : Type 0} (S : SwapStore W) where
   }
 
   -- pages that move are as many
-  pages_kept : (m n : Memory W) → IsSound S.slot_count m → MovesPages S m n → n.pages ≡ m.pages
+  pub pages_kept : (m n : Memory W) → IsSound S.slot_count m → MovesPages S m n → n.pages ≡ m.pages
   pages_kept m n sound moves =
       let now : n.pages ≡ pages (processes n) (ledger S.held n) = moves.sound.pages ∙ sym (pages-ledger S.held n) in
       let before : m.pages ≡ pages (processes m) (ledger S.held m) = sound.pages ∙ sym (pages-ledger S.held m) in

@@ -1,9 +1,9 @@
 -- The pages of a process, as they are placed one after the other, and the frames that they come to.
 use Rattle.xk_ports.specs.declared.store.SwapStore.{Ghosts as SwapStore}
 use Rattle.xk_base.specs.Tables.Circle.{is_pid}
-use Rattle.std.proofs.Common.{◌≡◌, ◌≢◌, ℕ, ◌+◌, ◌*◌, ◌<◌, ◌≤◌, Bool, true, List, take, length, get_or, Some, None, refl, sym, ap, subst, ◌∙◌, arith, length-take}
-use Rattle.std.specs.Prelude.{All, AllPairs, is_some}
-use Rattle.std.proofs.lemmas.Bool.{and_from}
+use Rattle.std.proofs.Common.{◌≡◌, ◌≢◌, ℕ, ◌+◌, ◌*◌, ◌<◌, ◌≤◌, Bool, true, List, take, length, get_or, Some, None, refl, sym, ap, subst, ◌∙◌, arith, inl, inr, length-take}
+use Rattle.std.specs.Prelude.{All, AllPairs, is_some, Err, Ok, OnOk, Result}
+use Rattle.std.proofs.lemmas.Bool.{and_from, cases_lt}
 use Rattle.std.proofs.lemmas.List.{take_more, take_all, get_or-take, get_or_default}
 use Rattle.xk_base.specs.Tables.Counting.{put_at}
 use Rattle.xk_base.specs.declared.ids.Frame.{Frame as FrameNumber}
@@ -27,13 +27,15 @@ use Rattle.sv32_space.specs.Tie.{Held}
 use Rattle.sv32_space.proofs.Ledgers.PageLedgerLemmas.{seat_kept}
 use Rattle.vm_memory.specs.declared.memory.Memory.{Memory}
 use Rattle.vm_memory.specs.Pages.Changing.{IsFreeFrame, ChangesPagesAlone}
+use Rattle.vm_memory.specs.Bytes.{pages_out, used_frames, used_slots}
 use Rattle.vm_memory.specs.FirstLedger.{first_page}
 use Rattle.vm_memory.specs.Memory.{IsUsable, Size, size, processes, capacity_of, frames_for_pages, ledger}
 use Rattle.vm_memory.specs.Sound.{IsSound}
 use Rattle.vm_memory.specs.Starting.{AreFreeFrom, FillsFirstFrames, FillsInOrder, HasNoPage, IsUnlent, KeepsUnlent, PlacesPages, place_pages}
 use Rattle.vm_memory.proofs.Booting.FirstPageLemmas.{free_there, pages_home_else, pages_more, pages_unlent}
 use Rattle.vm_memory.proofs.Booting.PlacingLemmas.{kept_placed, place_bare, placed_none, placed_then}
-use Rattle.vm_memory.proofs.Changing.CallLemmas.{alone-none_out}
+use Rattle.vm_memory.proofs.Changing.CallLemmas.{alone-none_out, none_used}
+use Rattle.vm_memory.proofs.Changing.CountLemmas.{frames_few}
 
 -- a sound memory's table has so many frames, from so many on
 pub record HasTable {W : Type 0} (m : Memory W) : Type 0 where
@@ -81,19 +83,19 @@ module _ {W : Type 0} (slot_count : W → ℕ) (m : Memory W) (sound : IsSound s
       let there : f ≡ (extent m.owners).first + m.pages = omega (arith, is, table.first, sound.procs) in
       record {
         within = (omega arith, omega (arith, table.room));
-        free = ap (λ n. infos m.owners (frame_seat n)) there ∙ (order (omega (arith, left))).free m.pages (omega arith) (omega (arith, table.room));
+        free = ap (λ n. infos m.owners (frame_seat n)) there ∙ (order.first (omega (arith, left))).free m.pages (omega arith) (omega (arith, table.room));
       }
 
   -- .. and a page that comes there leaves those behind it free
   pub filled_next : (n : Memory W) (number : FrameNumber) → number.0 ≡ f → (info : PageInfo) → FillsInOrder m → m.pages < frames_for_pages m → IsSound slot_count n
       → infos n.owners ≡ put_at seat_eq (infos m.owners) (Frame number) (Some info) → n.pages ≡ m.pages + 1 → ChangesPagesAlone m n → FillsInOrder n
-  filled_next n number named info order left new_sound owned counted rest few = record {
-    none = alone-none_out m n rest before.none;
-    free = free_behind;
+  filled_next n number named info order left new_sound owned counted rest = record {
+    first = λ few. record { none = alone-none_out m n rest before.none; free = free_behind };
+    past = λ over. absurd (omega (arith, over, counted, left, same_frames slot_count m n sound new_sound rest.size));
   }
     where
       before : FillsFirstFrames m
-      before = order (omega (arith, left))
+      before = order.first (omega (arith, left))
 
       tables : ((extent n.owners).first ≡ (extent m.owners).first) × ((extent n.owners).frames ≡ (extent m.owners).frames)
       tables = same_table slot_count m n sound new_sound rest.size
@@ -108,11 +110,43 @@ module _ {W : Type 0} (slot_count : W → ℕ) (m : Memory W) (sound : IsSound s
           ∙ seat_kept (infos m.owners) (Frame number) (frame_seat ((extent m.owners).first + j)) (Some info) apart
           ∙ before.free j (omega (arith, counted)) (omega (arith, tables.1))
 
--- more pages than frames for them are in no order
+-- ---- the last free frame
+
+-- where there are as many pages as frames for them, or more, one frame alone is free
+pub last_left : {W : Type 0} (slot_count : W → ℕ) (m : Memory W) → IsSound slot_count m → FillsInOrder m → frames_for_pages m ≤ m.pages
+    → used_frames m.owners ≡ frames_for_pages m
+last_left slot_count m sound order past = elim (cases_lt (frames_for_pages m) m.pages) [
+  | inl over ↦ order.past over
+  | inr all ↦
+      let none : used_slots m.owners ≡ 0 = none_used m (order.first all).none in
+      omega (arith, none, sound.seats, all, past)
+]
+
+-- a page that comes there leaves none free
+pub last_filled : {W : Type 0} (slot_count : W → ℕ) (m n : Memory W) → IsSound slot_count m → IsSound slot_count n → size n ≡ size m
+    → pages_out n ≤ pages_out m → n.pages ≡ m.pages + 1 → used_frames m.owners ≡ frames_for_pages m → (extent n.owners).frames ≤ used_frames n.owners
+last_filled slot_count m n sound new_sound same few counted last =
+    let t : HasTable n = table_of slot_count n new_sound in
+    omega (arith, sound.seats, new_sound.seats, few, counted, last, t.room, same_frames slot_count m n sound new_sound same)
+
+-- .. and a page that goes out then leaves one
+pub last_again : {W : Type 0} (slot_count : W → ℕ) (n k : Memory W) → IsSound slot_count n → IsSound slot_count k → size k ≡ size n
+    → (extent n.owners).frames ≤ used_frames n.owners → k.pages ≡ n.pages → pages_out k ≡ pages_out n + 1 → used_frames k.owners ≡ frames_for_pages k
+last_again slot_count n k sound new_sound same full counted out =
+    let t : HasTable n = table_of slot_count n sound in
+    omega (arith, sound.seats, new_sound.seats, full, frames_few n.owners, counted, out, t.room, same_frames slot_count n k sound new_sound same)
+
 pub filled_past : {W : Type 0} (slot_count : W → ℕ) (m n : Memory W) → IsSound slot_count m → IsSound slot_count n → size n ≡ size m
-    → frames_for_pages m ≤ m.pages → n.pages ≡ m.pages + 1 → FillsInOrder n
-filled_past slot_count m n sound new_sound same past counted few =
-    absurd (omega (arith, past, counted, few, same_frames slot_count m n sound new_sound same))
+    → frames_for_pages m ≤ m.pages → n.pages ≡ m.pages + 1 → used_frames n.owners ≡ frames_for_pages n → FillsInOrder n
+filled_past slot_count m n sound new_sound same past counted last = record {
+  first = λ few. absurd (omega (arith, past, counted, few, same_frames slot_count m n sound new_sound same));
+  past = λ over. last;
+}
+
+-- what follows from what is said of an answer
+pub on_ok_then : {A E : Type 0} (r : Result A E) (P Q : Type 0) → OnOk r P → (P → Q) → OnOk r Q
+on_ok_then (Ok x) P Q p f = f p
+on_ok_then (Err e) P Q p f = tt
 
 -- ---- the pages of a process
 

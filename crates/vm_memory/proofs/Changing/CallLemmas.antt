@@ -9,7 +9,6 @@ use Rattle.phys_pages.specs.declared.infos.Seat.TheVariants.{Slot}
 use Rattle.phys_pages.specs.Owners.{OwnerTable, extent, infos, slot_seat}
 use Rattle.phys_pages.proofs.OwnerLemmas.{infos-within}
 use Rattle.ledger_model.proofs.LedgerLemmas.{cases_Option}
-use Rattle.sv32_space.specs.Tie.{Held}
 use Rattle.vm_memory.specs.declared.memory.Memory.{Memory}
 use Rattle.vm_memory.specs.Bytes.{MeansBytes, is_known, none_out, pages_out, used_slots}
 use Rattle.xk_ports.specs.declared.store.SwapStore.{Ghosts as SwapStore}
@@ -41,6 +40,10 @@ none_out-slots m none s = elim (cases_Option (infos m.owners (Slot s))) [
       zero_each (extent m.owners).slots (λ k. is_some (infos m.owners (slot_seat k))) (eqb-true (used_slots m.owners) 0 none) s.0 low in
       absurd (both_ways (is_some (infos m.owners (Slot s))) each (ap is_some used.1))
 ]
+
+pub none_used : {W : Type 0} (m : Memory W) → none_out m ≡ true → used_slots m.owners ≡ 0
+unfolding none_out
+none_used m none = eqb-true (used_slots m.owners) 0 none
 
 pub slots-none_out : {W : Type 0} (m : Memory W) → ((s : SlotNumber) → infos m.owners (Slot s) ≡ None) → none_out m ≡ true
 unfolding none_out

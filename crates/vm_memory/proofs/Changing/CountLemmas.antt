@@ -1,11 +1,11 @@
 -- As many seats are used as there are pages, so that a frame is free while the capacity holds.
-use Rattle.std.proofs.Common.{◌≡◌, ℕ, zero, suc, ◌+◌, ◌-◌, ◌<◌, ◌≤◌, Bool, true, false, if◌then◌else◌, Option, Some, None, refl, sym, ap, ◌∙◌, inl, inr, arith}
+use Rattle.std.proofs.Common.{◌≡◌, ℕ, zero, suc, ◌+◌, ◌-◌, ◌<◌, ◌≤◌, Bool, true, false, if◌then◌else◌, Option, Some, None, refl, sym, ap, subst, ◌∙◌, inl, inr, arith}
 use Rattle.std.specs.Prelude.{is_some, nat_lt}
 use Rattle.std.proofs.lemmas.Bool.{both_ways, cases_eq, cases_lt, cond-true, cond-false, lt-ltb, le-ltb}
 use Rattle.xk_base.specs.Tables.Counting.{count_below}
-use Rattle.xk_base.proofs.CountingLemmas.{count_below-same}
+use Rattle.xk_base.proofs.CountingLemmas.{count_below-bound, count_below-same}
 use Rattle.phys_pages.specs.declared.infos.PageInfo.{PageInfo}
-use Rattle.phys_pages.specs.Owners.{OwnerTable, Extent, extent, infos, frame_seat, slot_seat}
+use Rattle.phys_pages.specs.Owners.{AreFramesUsed, OwnerTable, Extent, extent, infos, frame_seat, slot_seat}
 use Rattle.phys_pages.proofs.OwnerLemmas.{infos-within}
 use Rattle.ledger_model.specs.Ledger.{pages}
 use Rattle.ledger_model.specs.Steps.{zero_page}
@@ -59,6 +59,33 @@ each_counts n f h = elim (cases_lt (count_below n f) n) [
       absurd (both_ways (f found.0) found.2 (h found.0 found.1))
   | inr all ↦ all
 ]
+
+-- where all count, each passes
+pub each_of_all : (n : ℕ) (f : ℕ → Bool) → n ≤ count_below n f → (k : ℕ) → k < n → f k ≡ true
+unfolding count_below
+each_of_all zero f h k low = absurd (omega (arith, low))
+each_of_all (suc n) f h k low = by_last (f n) refl h (λ all. each_of_all n f all k)
+  where
+    by_last : (b : Bool) → f n ≡ b → suc n ≤ count_below n f + (if b then 1 else 0) → (n ≤ count_below n f → k < n → f k ≡ true) → f k ≡ true
+    by_last false e g before = let bound : count_below n f ≤ n = count_below-bound n f in absurd (omega (arith, g, bound))
+    by_last true e g before = elim (cases_eq k n) [
+      | inl same ↦ ap f same ∙ e
+      | inr apart ↦ before (omega (arith, g)) (omega (arith, low, apart))
+    ]
+
+-- no frame is free where as many are used as there are
+pub frames_full : (owners : OwnerTable) → (extent owners).frames ≤ used_frames owners → AreFramesUsed owners ((extent owners).first + (extent owners).frames)
+frames_full owners all k from to =
+    let there : (extent owners).first + (k - (extent owners).first) ≡ k = omega (arith, from) in
+    subst (λ n. is_some (infos owners (frame_seat n)) ≡ true) there
+    (each_of_all (extent owners).frames (λ j. is_some (infos owners (frame_seat ((extent owners).first + j)))) all (k - (extent owners).first) (omega (arith, from, to)))
+
+-- no more frames and slots are used than there are
+pub frames_few : (owners : OwnerTable) → used_frames owners ≤ (extent owners).frames
+frames_few owners = count_below-bound (extent owners).frames (λ k. is_some (infos owners (frame_seat ((extent owners).first + k))))
+
+pub slots_few : (owners : OwnerTable) → used_slots owners ≤ (extent owners).slots
+slots_few owners = count_below-bound (extent owners).slots (λ k. is_some (infos owners (slot_seat k)))
 
 frame_there : (t : Extent) (k : ℕ) → k < t.frames → table_seat t k ≡ frame_seat (t.first + k)
 frame_there t k l = cond-true (nat_lt k t.frames) (frame_seat (t.first + k)) (slot_seat (k - t.frames)) (lt-ltb k t.frames l)

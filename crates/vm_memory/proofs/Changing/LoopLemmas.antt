@@ -1,17 +1,10 @@
 -- Runs that are made, removed and reduced page by page: what holds after the first i pages.
 use Rattle.xk_ports.specs.declared.store.SwapStore.{Ghosts as SwapStore}
-use Rattle.std.proofs.Common.{◌≡◌, ℕ, ◌+◌, ◌*◌, ◌<◌, ◌≤◌, ◌^◌, true, false, Some, refl, sym, ap, subst, ◌∙◌, inl, inr, arith}
-use Rattle.std.specs.Prelude.{is_some}
-use Rattle.std.proofs.lemmas.Bool.{both_ways, cases_lt, cond-true, cond-false}
+use Rattle.std.proofs.Common.{◌≡◌, ℕ, ◌+◌, ◌<◌, ◌≤◌, ◌^◌, true, false, refl, sym, ap, ◌∙◌, inl, inr, arith}
+use Rattle.std.proofs.lemmas.Bool.{both_ways, cases_lt}
 use Rattle.boot_plan.specs.Capacity.{capacity, page_frames}
-use Rattle.xk_base.specs.Tables.Counting.{put_at}
-use Rattle.xk_base.specs.declared.ids.Frame.{Frame as FrameNumber}
 use Rattle.xk_base.specs.declared.ids.Place.{Place}
 use Rattle.xk_base.specs.declared.pages.Right.{Right}
-use Rattle.phys_pages.specs.declared.infos.PageInfo.{PageInfo}
-use Rattle.phys_pages.specs.declared.infos.Seat.TheVariants.{Frame}
-use Rattle.phys_pages.specs.Owners.{OwnerTable, AreFramesUsed, extent, frame_seat, infos, seat_eq}
-use Rattle.phys_pages.proofs.OwnerLemmas.{seat_tells}
 use Rattle.ledger_model.specs.Conditions.{CanMake}
 use Rattle.ledger_model.specs.Ledger.{Ledger, pages}
 use Rattle.ledger_model.specs.Places.{in_run, is_user_place, place_after}
@@ -24,10 +17,11 @@ use Rattle.sv32_space.specs.Tie.{Held}
 use Rattle.sv32_space.proofs.RunLemmas.{make_next, remove_next, reduce_next}
 use Rattle.vm_memory.specs.declared.memory.Memory.{Memory}
 use Rattle.vm_memory.specs.Pages.Changing.{ChangesPagesAlone}
-use Rattle.vm_memory.specs.Memory.{Size, size, capacity_of, frames_for_pages, ledger, processes}
+use Rattle.vm_memory.specs.Memory.{Size, capacity_of, frames_for_pages, ledger, processes}
 use Rattle.vm_memory.specs.Sound.{IsSound}
 use Rattle.vm_memory.proofs.Using.NowhereLemmas.{no_user}
 use Rattle.vm_memory.proofs.Changing.RunLemmas.{free_ahead, lent_ahead, lent_ahead_reduced, within_ahead}
+use Rattle.vm_memory.proofs.Changing.ShiftedLemmas.{unmoved}
 use Rattle.vm_memory.proofs.Changing.SoundMemoryLemmas.{pages-ledger}
 
 run_wider : (first : Place) (i n : ℕ) (p : Place) → i ≤ n → in_run first i p ≡ true → in_run first n p ≡ true
@@ -53,6 +47,22 @@ rest_then a b c first second = record {
   failed = second.failed ∙ first.failed;
   slots = λ s free. second.slots s (first.slots s free);
 }
+
+-- ---- another frame at hand
+
+pub handed_sound : {W : Type 0} (S : SwapStore W) (m : Memory W) → IsSound S.slot_count m → (hand : ℕ) → IsSound S.slot_count (record m { hand = hand })
+handed_sound S m sound hand =
+    let moves = unmoved S m sound m.failed hand (λ usable. sound.room usable) in
+    moves.sound
+
+pub handed_ledger : {W : Type 0} (held : W → Held) (m : Memory W) (hand : ℕ) → ledger held (record m { hand = hand }) ≡ ledger held m
+unfolding ledger
+handed_ledger held m hand = refl
+
+pub handed_rest : {W : Type 0} (old new : Memory W) (hand : ℕ) → ChangesPagesAlone old new → ChangesPagesAlone old (record new { hand = hand })
+handed_rest old new hand rest = record { size = rest.size; store = rest.store; failed = rest.failed; slots = rest.slots }
+
+-- ---- the next page of a run
 
 module _ {W : Type 0} (S : SwapStore W) (m0 m : Memory W) (sound : IsSound S.slot_count m) (rest : ChangesPagesAlone m0 m) (first : Place) (n i : ℕ) (low : i < n) where
   abbrev L0 : Ledger
@@ -126,24 +136,3 @@ user_bound procs p user = elim (cases_lt p.vpn.0 (2 ^ 32)) [
   | inl low ↦ low
   | inr past ↦ absurd (both_ways (is_user_place procs p) (no_user procs p past) user)
 ]
-
--- two sound memories of one size have one first frame
-pub first_same : {W : Type 0} (slot_count : W → ℕ) (old new : Memory W) → IsSound slot_count old → IsSound slot_count new → size new ≡ size old
-    → (extent new.owners).first ≡ (extent old.owners).first
-first_same slot_count old new a b e =
-    let procs : processes new ≡ processes old = ap (λ (s : Size). s.procs) e in
-    let first : (extent old.owners).first ≡ 21 * processes old = a.agree.first in
-    let second : (extent new.owners).first ≡ 21 * processes new = b.agree.first in
-    second ∙ (ap (λ k. 21 * k) procs ∙ sym first)
-
--- the frames below the next one are used
-pub next_used : (old new : OwnerTable) (f : FrameNumber) (info : PageInfo) → (extent new).first ≡ (extent old).first
-    → infos new ≡ put_at seat_eq (infos old) (Frame f) (Some info) → AreFramesUsed old f.0 → AreFramesUsed new (f.0 + 1)
-next_used old new f info table told used k from to = elim (seat_tells (frame_seat k) (Frame f)) [
-  | inl same ↦ ap (λ J. is_some (J (frame_seat k))) told ∙ ap is_some (cond-true (seat_eq (frame_seat k) (Frame f)) (Some info) (infos old (frame_seat k)) same.1)
-  | inr apart ↦ ap (λ J. is_some (J (frame_seat k))) told ∙ (ap is_some (cond-false (seat_eq (frame_seat k) (Frame f)) (Some info) (infos old (frame_seat k)) apart.1)
-      ∙ used k (subst (λ t. t ≤ k) table from) (before (λ e. apart.0 (ap frame_seat e))))
-]
-  where
-    before : (k ≡ f.0 → ⊥) → k < f.0
-    before h = omega (arith, h)

@@ -24,7 +24,7 @@ use Rattle.ledger_model.proofs.Stepping.WritingLemmas.{bare-pages}
 use Rattle.sv32_space.specs.Agreement.{HasUnusedFrame, procs_of}
 use Rattle.sv32_space.specs.PageChanges.{renamed_entry, with_info}
 use Rattle.sv32_space.specs.SpelledEntries.{entries}
-use Rattle.sv32_space.specs.Tie.{Held, agrees, bytes_at, ledger_in}
+use Rattle.sv32_space.specs.Tie.{agrees, bytes_at, ledger_in}
 use Rattle.sv32_space.specs.declared.sides.Entry.TheVariants.{At}
 use Rattle.sv32_space.specs.declared.sides.Side.{Side}
 use Rattle.loan_flags.specs.Keeping.{tables}
@@ -172,10 +172,6 @@ pub none_all_used : (table : Extent) (owners : OwnerTable) (o : Option FrameNumb
 none_all_used table owners None used h = used
 none_all_used table owners (Some f) used h = absurd cc
 
-pub frame_used : (owners : OwnerTable) (o : Option FrameNumber) → IfNone o (AreFramesUsed owners ((extent owners).first + (extent owners).frames)) → is_some o ≡ false
-    → (f : FrameNumber) → HasSeat (extent owners) (Frame f) → is_some (infos owners (Frame f)) ≡ true
-frame_used owners o used h f within = none_all_used (extent owners) owners o used h f.0 within.0 within.1
-
 pub all_slots : (owners : OwnerTable) (o : Option SlotNumber) → IfNone o (AreSlotsUsed owners (extent owners).slots) → o ≡ None → AreSlotsUsed owners (extent owners).slots
 all_slots owners None used h = used
 all_slots owners (Some s) used h = absurd cc
@@ -189,8 +185,8 @@ pub some_slot_free : (owners : OwnerTable) (o : Option SlotNumber) → IfSome o 
     → infos owners (Slot s) ≡ None
 some_slot_free owners o free s e = subst (λ r. IfSome r (λ t. infos owners (Slot t) ≡ None)) e free
 
-pub kept_seat : (old new : Extent) → new ≡ old → (f : FrameNumber) → HasSeat old (Frame f) → HasSeat new (Frame f)
-kept_seat old new same f within = subst (λ t. HasSeat t (Frame f)) (sym same) within
+pub kept_seat : (old new : Extent) → new ≡ old → (s : Seat) → HasSeat old s → HasSeat new s
+kept_seat old new same s within = subst (λ t. HasSeat t s) (sym same) within
 
 -- no frame is free, and not all slots are used: as many pages as the capacity allows leave one seat
 pub slot_left : {W : Type 0} (slot_count : W → ℕ) (m : Memory W) → IsSound slot_count m
@@ -259,13 +255,18 @@ pub comes_near : {W : Type 0} (m : Memory W) (ram : RamBytes) (owners : OwnerTab
 comes_near m ram owners from into moves at side e = ap (λ E. E at) moves.entries ∙ (ap (option_map (renamed_entry (Slot from) (Frame into))) e
     ∙ ap (λ s. Some (At side s)) (cond-true (seat_eq (Slot from) (Slot from)) (Frame into) (Slot from) (same_seat (Slot from))))
 
+-- .. its slot is free
+pub left_behind : {W : Type 0} (m : Memory W) (ram : RamBytes) (owners : OwnerTable) (from : SlotNumber) (into : FrameNumber)
+    → Moves (tables m.ram m.owners) (tables ram owners) (Slot from) (Frame into) → infos owners (Slot from) ≡ None
+left_behind m ram owners from into moves = ap (λ I. I (Slot from)) moves.infos ∙ put_here (infos m.owners) (Slot from) None
+
 -- .. and one page less is out
 pub one_in : {W : Type 0} (m : Memory W) (ram : RamBytes) (owners : OwnerTable) (from : SlotNumber) (into : FrameNumber)
     → Moves (tables m.ram m.owners) (tables ram owners) (Slot from) (Frame into)
     → (extent owners).slots ≡ (extent m.owners).slots → is_some (infos m.owners (Slot from)) ≡ true → used_slots m.owners ≡ used_slots owners + 1
 one_in m ram owners from into moves table used = one_more_used owners m.owners from (sym table)
     (subst (λ n. from.0 < n) (sym table) (used_within m.owners (Slot from) used))
-    (ap (λ I. I (Slot from)) moves.infos ∙ put_here (infos m.owners) (Slot from) None) used
+    (left_behind m ram owners from into moves) used
     (λ r apart. sym (ap (λ I. I (Slot r)) moves.infos
     ∙ cond-false (seat_eq (Slot r) (Slot from)) None (infos m.owners (Slot r)) (ne_eqb r.0 from.0 apart)))
 

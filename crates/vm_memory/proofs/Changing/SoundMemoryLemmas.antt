@@ -1,6 +1,6 @@
 -- What follows from the soundness of a memory.
 use Rattle.xk_ports.specs.declared.store.SwapStore.{Ghosts as SwapStore}
-use Rattle.std.proofs.Common.{◌≡◌, ℕ, Bool, true, false, refl}
+use Rattle.std.proofs.Common.{◌≡◌, Bool, true, false, refl}
 use Rattle.std.specs.Prelude.{MatchBool}
 use Rattle.phys_pages.specs.Owners.{extent, infos}
 use Rattle.ledger_model.specs.Ledger.{pages}

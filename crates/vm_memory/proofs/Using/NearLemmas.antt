@@ -26,7 +26,6 @@ use Rattle.ledger_model.proofs.LedgerLemmas.{cases_Option}
 use Rattle.ledger_model.proofs.Pages.BareLemmas.{bare-contents, bare-reach, is_bytes}
 use Rattle.sv32_space.specs.EntryReach.{entry_may, side_may}
 use Rattle.sv32_space.specs.SpelledEntries.{entries}
-use Rattle.sv32_space.specs.Tie.{Held}
 use Rattle.sv32_space.specs.declared.sides.Entry.{Entry}
 use Rattle.sv32_space.specs.declared.sides.Entry.TheVariants.{At, Free, OnConsole}
 use Rattle.sv32_space.specs.declared.sides.Side.{Side}

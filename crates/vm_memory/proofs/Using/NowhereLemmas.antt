@@ -13,7 +13,7 @@ use Rattle.ledger_model.specs.Places.{in_run, is_user_place}
 use Rattle.ledger_model.specs.Steps.{reduce, remove}
 use Rattle.sv32_space.specs.EntryLedger.{ledger_of, page_of_entry}
 use Rattle.sv32_space.specs.SpelledEntries.{entries}
-use Rattle.sv32_space.specs.Tie.{Held, bytes_at}
+use Rattle.sv32_space.specs.Tie.{bytes_at}
 use Rattle.sv32_space.proofs.EntryLemmas.{no_entry_elsewhere}
 use Rattle.sv32_space.proofs.RunLemmas.{remove_nothing}
 use Rattle.vm_memory.specs.declared.memory.Here.TheVariants.{Nothing}

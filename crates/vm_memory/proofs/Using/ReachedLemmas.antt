@@ -21,7 +21,7 @@ use Rattle.sv32_space.specs.Entries.{Entries}
 use Rattle.sv32_space.specs.EntryLedger.{SeatBytes}
 use Rattle.sv32_space.specs.EntryReach.{entry_may, side_may, entry_name, side_name}
 use Rattle.sv32_space.specs.SpelledEntries.{entries}
-use Rattle.sv32_space.specs.Tie.{Held, bytes_at}
+use Rattle.sv32_space.specs.Tie.{bytes_at}
 use Rattle.xk_base.specs.declared.ids.Frame.{Frame as FrameNumber}
 use Rattle.vm_memory.specs.declared.memory.Memory.{Memory}
 use Rattle.vm_memory.specs.declared.memory.access.Target.TheVariants.{Page, Nothing, Console as OnDevice}

@@ -19,7 +19,6 @@ use Rattle.sv32_space.specs.declared.sides.Entry.TheVariants.{Free, At, OnConsol
 use Rattle.sv32_space.specs.EntryReach.{entry_may, side_may, entry_name}
 use Rattle.sv32_space.specs.Spaces.{root_at}
 use Rattle.sv32_space.specs.SpelledEntries.{entries}
-use Rattle.sv32_space.specs.Tie.{Held}
 use Rattle.sv32_space.specs.Walk.{walk_of}
 use Rattle.sv32_space.specs.declared.walking.Walked.{Walked}
 use Rattle.sv32_space.specs.declared.walking.Walked.TheVariants.{Reaches, PageFault}

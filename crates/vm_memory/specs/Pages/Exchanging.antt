@@ -1,5 +1,5 @@
 -- Pages that come in to frames and go out to slots.
-use Rattle.std.specs.Prelude.{◌≡◌, ℕ, ◌≤◌, Bool, true, IsTrue, Option, Some, None, if◌then◌else◌}
+use Rattle.std.specs.Prelude.{◌≡◌, ◌≤◌, Bool, true, IsTrue, Option, Some, None, if◌then◌else◌}
 use Rattle.xk_base.specs.declared.ids.Frame.{Frame as FrameNumber}
 use Rattle.xk_base.specs.declared.ids.Slot.{Slot as SlotNumber}
 use Rattle.xk_base.specs.declared.pages.Access.{Access}
@@ -7,7 +7,6 @@ use Rattle.phys_pages.specs.declared.infos.Seat.{Seat}
 use Rattle.phys_pages.specs.declared.infos.Seat.TheVariants.{Frame, Slot}
 use Rattle.ledger_model.specs.Loans.{bare}
 use Rattle.sv32_space.specs.EntryReach.{side_may}
-use Rattle.sv32_space.specs.Tie.{Held}
 use Rattle.sv32_space.specs.declared.sides.Entry.{Entry}
 use Rattle.sv32_space.specs.declared.sides.Entry.TheVariants.{Free, At, OnConsole}
 use Rattle.sv32_space.specs.declared.sides.Side.{Side}

@@ -14,7 +14,6 @@ use Rattle.ledger_model.specs.LeastRun.{least_run}
 use Rattle.ledger_model.specs.Loans.{bare}
 use Rattle.ledger_model.specs.RunTests.{fits_window, any_used, console_mapped}
 use Rattle.ledger_model.specs.Steps.{make, make_console}
-use Rattle.sv32_space.specs.Tie.{Held}
 use Rattle.xk_ports.specs.declared.store.SwapStore.{Ghosts as SwapStore}
 use Rattle.xk_ports.specs.Keeping.{KeepsStore}
 use Rattle.vm_memory.specs.declared.memory.Memory.{Memory}

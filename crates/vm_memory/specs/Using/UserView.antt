@@ -1,5 +1,5 @@
 -- Memory as the instructions of a process see it, and what is kept besides.
-use Rattle.std.specs.Prelude.{◌≡◌, ◌≢◌, ℕ, ◌≤◌, ◌%◌, Bool, true, false, not, is_some, Option, Some, None, if◌then◌else◌}
+use Rattle.std.specs.Prelude.{◌≡◌, ◌≢◌, ℕ, ◌≤◌, ◌%◌, true, false, not, is_some, Option, Some, None, if◌then◌else◌}
 use Rattle.std.specs.Option.{option_map_or}
 use Rattle.xk_base.specs.UserMemory.{Memory as SeenMemory, Content, Seen}
 use Rattle.xk_base.specs.declared.ids.Pid.{Pid}

@@ -1,7 +1,7 @@
 //! A memory with its first pages.
 
 ghost use Rattle.xk_base.specs.Tables.Circle.{is_pid};
-ghost use Rattle.std.specs.Prelude.{◌≡◌, ◌≢◌, ℕ, ◌+◌, ◌-◌, ◌*◌, ◌%◌, ◌<◌, ◌≤◌, true, length, All, AllPairs, IfOk, IfErr, OnOk, OnErr, Some};
+ghost use Rattle.std.specs.Prelude.{◌≡◌, ◌≢◌, ℕ, ◌+◌, ◌-◌, ◌*◌, ◌%◌, ◌<◌, ◌≤◌, true, length, All, AllPairs, IfOk, IfErr, IfNone, IfSome, None, OnOk, OnErr, Some};
 ghost use Rattle.boot_plan.specs.Capacity.{page_frames};
 ghost use Rattle.xk_base.specs.Numbers.Limits.{table_frames};
 ghost use Rattle.boot_plan.specs.FirstPages.{planned_pages};
@@ -11,14 +11,14 @@ ghost use Rattle.ledger_model.specs.Ledger.{empty_ledger};
 ghost use Rattle.ledger_model.specs.Loans.{bare};
 ghost use Rattle.ledger_model.specs.Places.{is_user_place};
 ghost use Rattle.ledger_model.specs.Reach.{is_free};
-ghost use Rattle.phys_pages.specs.Owners.{extent, infos, no_infos, seat_eq};
+ghost use Rattle.phys_pages.specs.Owners.{AreSlotsUsed, HasSeat, extent, infos, no_infos, seat_eq};
 ghost use Rattle.phys_pages.specs.Ram.{area, pages};
 ghost use Rattle.sv32_space.specs.Agreement.{owned_by};
 ghost use Rattle.sv32_space.specs.declared.sides.Entry.TheVariants.{Free};
 ghost use Rattle.sv32_space.specs.PageSteps.{place_page};
 ghost use Rattle.sv32_space.specs.Spaces.{IsMade};
 ghost use Rattle.sv32_space.specs.SpelledEntries.{entries};
-ghost use Rattle.vm_memory.specs.Bytes.{MeansBytes, none_out};
+ghost use Rattle.vm_memory.specs.Bytes.{MeansBytes, none_out, used_frames};
 ghost use Rattle.xk_ports.specs.Keeping.{KeepsStore};
 ghost use Rattle.vm_memory.specs.Pages.Changing.{IsFreeFrame, ChangesPagesAlone};
 ghost use Rattle.vm_memory.specs.FirstLedger.{first_ledger, first_page, page_bytes};
@@ -38,7 +38,7 @@ use phys_pages::{Owners, Ram, Seat};
 use std::alloc::Global;
 use sv32_space::new_space;
 use xk_base::limits::TABLE_FRAMES;
-use xk_base::{Failed, Frame, NoMemory, Pid, Place};
+use xk_base::{Failed, Frame, NoMemory, Pid, Place, Slot};
 use xk_ports::SwapStore;
 
 // Fills a page with its bytes of the file, then zeros.
@@ -153,22 +153,44 @@ impl<W: SwapStore> Memory<W> {
         fill(self.ram.page_mut(f), file, page);
     }
 
-    // .. in any free frame; where it was the last one, another page goes out.
+    // A free slot: the first one that was never used, where pages have come in order, or another.
+    fn next_slot(&self) -> Option<Slot>
+        requires sound { IsSound W.slot_count self.now }
+        ensures within { IfSome result (λ s. HasSeat (extent self.now.owners) (Seat.Slot s)) }
+        ensures found { IfSome result (λ s. infos self.now.owners (Seat.Slot s) ≡ None) }
+        ensures none { IfNone result (AreSlotsUsed self.now.owners (extent self.now.owners).slots) }
+    {
+        let frames = self.page_frames() + 1;
+        if frames <= self.pages && self.pages - frames < self.slots {
+            let to = Slot(self.pages - frames);
+            if self.owners.info(Seat::Slot(to)).is_none() {
+                return Some(to);
+            }
+        }
+        self.owners.free_slot()
+    }
+
+    // .. in the last free frame: then another page goes out.
     fn place_crowded(&mut self, at: Place, page: &PagePlan, file: &[u8]) -> Result<(), Failed>
         requires sound { IsSound W.slot_count self.old }
         requires usable { IsUsable self.old }
         requires place { is_user_place (processes self.old) at ≡ true }
         requires free { is_free (processes self.old) (ledger W.held self.old) at ≡ true }
         requires room { self.old.pages + 1 ≤ capacity_of self.old }
+        requires last { used_frames self.old.owners ≡ frames_for_pages self.old }
         requires page { IsLawfulPage (length file.now) page.now }
         ensures placed { PlacesPages W.SwapStore self.old self.new 1 (place_page at (first_page file.now page.now)) }
+        ensures last { OnOk result (used_frames self.new.owners ≡ frames_for_pages self.new) }
         ensures usable { OnOk result (IsUsable self.new) }
         ensures cause { OnErr result (Rose (W.faults (store_of self.old)) (W.faults (store_of self.new))) }
     {
         let f = self.free_frame();
         self.failed = true;
         self.place_in(at, f, page, file);
-        self.make_room(f)
+        let Some(to) = self.next_slot() else {
+            unreachable!();
+        };
+        self.put_out(f, to)
     }
 
     // .. in the next of the first frames while there are frames for all pages, so that no frame is
@@ -182,7 +204,7 @@ impl<W: SwapStore> Memory<W> {
         requires order { FillsInOrder self.old }
         requires page { IsLawfulPage (length file.now) page.now }
         ensures placed { PlacesPages W.SwapStore self.old self.new 1 (place_page at (first_page file.now page.now)) }
-        ensures order { FillsInOrder self.new }
+        ensures order { OnOk result (FillsInOrder self.new) }
         ensures usable { OnOk result (IsUsable self.new) }
         ensures cause { OnErr result (Rose (W.faults (store_of self.old)) (W.faults (store_of self.new))) }
         ensures full { OnErr result (frames_for_pages self.old ≤ self.old.pages) }
@@ -248,8 +270,8 @@ impl<W: SwapStore> Memory<W> {
     /// A memory with the first pages of a plan, with their bytes from the file that it was made for.
     /// All memory is taken here. Want of it, or `SwapFault` of the store, hands the store back. Where
     /// there are frames for all pages, none goes out: the store isn't called, and it takes time by RAM
-    /// and the pages. Else each page past those frames takes up to two passes over the frames and one
-    /// over the slots, and puts another page out.
+    /// and the pages. Else each page past those frames puts another one out, and it takes time
+    /// by RAM and the pages too.
     pub fn boot(
         alloc: Global,
         plan: &BootPlan,

@@ -9,7 +9,7 @@ ghost use Rattle.ledger_model.specs.Places.{in_run, is_user_place, same_place};
 ghost use Rattle.ledger_model.specs.Reach.{is_free, role_at};
 ghost use Rattle.ledger_model.specs.RunTests.{asks_more, is_on_loan};
 ghost use Rattle.ledger_model.specs.Steps.{make, make_console, reduce, remove, zero_page};
-ghost use Rattle.phys_pages.specs.Owners.{AreFramesUsed, extent, infos, seat_eq};
+ghost use Rattle.phys_pages.specs.Owners.{extent, infos, seat_eq};
 ghost use Rattle.phys_pages.specs.Ram.{area, pages};
 ghost use Rattle.sv32_space.specs.Agreement.{HasUnusedFrame, owned_by};
 ghost use Rattle.sv32_space.specs.declared.sides.Entry.TheVariants.{At, Free, OnConsole};
@@ -23,6 +23,7 @@ ghost use Rattle.vm_memory.specs.Sound.{IsSound};
 use crate::memory::Memory;
 use phys_pages::{PageInfo, Ram, Seat};
 use sv32_space::{Entry, Side, set_entry};
+use xk_base::limits::TABLE_FRAMES;
 use xk_base::{Frame, Place, Right};
 use xk_ports::SwapStore;
 
@@ -77,22 +78,38 @@ impl<W: SwapStore> Memory<W> {
         }
     }
 
-    // The first free frame from one on.
-    pub(crate) fn free_frame_from(&self, from: Frame) -> Frame
+    // The first free frame from one on, or else the first of all.
+    fn free_frame_from(&self, from: Frame) -> Frame
         requires sound { IsSound W.slot_count self.now }
         requires room { HasUnusedFrame (extent self.now.owners) (infos self.now.owners) }
         requires low { 21 * processes self.now ≤ from.0 }
-        requires used { AreFramesUsed self.now.owners from.0 }
-        ensures free { IsFreeFrame self.now.owners result.0 }
-        ensures used { AreFramesUsed self.now.owners result.0 }
-        ensures low { from.0 ≤ result.0 }
+        ensures { IsFreeFrame self.now.owners result.0 }
     {
         for k in from.0..self.ram.frames() {
             if self.owners.info(Seat::Frame(Frame(k))).is_none() {
                 return Frame(k);
             }
         }
-        unreachable!()
+        match self.owners.free_frame() {
+            Some(f) => f,
+            None => unreachable!(),
+        }
+    }
+
+    // A free frame: the search goes round from the one before that at hand, which is where the last
+    // exchange left one free.
+    pub(crate) fn free_frame(&self) -> Frame
+        requires sound { IsSound W.slot_count self.now }
+        requires usable { IsUsable self.now }
+        ensures { IsFreeFrame self.now.owners result.0 }
+    {
+        let first = TABLE_FRAMES * self.procs;
+        let from = if first < self.hand && self.hand <= self.ram.frames() {
+            self.hand - 1
+        } else {
+            first
+        };
+        self.free_frame_from(Frame(from))
     }
 
     // A page of zeros comes to a free place, in a free frame.

@@ -4,16 +4,16 @@
 //! free any more, another page goes out to a free slot. Between the halves the memory counts as
 //! failed, and so it stays where the store fails.
 
-ghost use Rattle.std.specs.Prelude.{◌≡◌, ◌≢◌, ◌+◌, ◌≤◌, ℕ, Some, None, true, false, IfOk, OnOk, OnErr};
+ghost use Rattle.std.specs.Prelude.{◌≡◌, ◌≢◌, ◌+◌, ◌<◌, ◌≤◌, ℕ, Some, None, true, false, IfOk, OnOk, OnErr};
 ghost use Rattle.ledger_model.specs.Reach.{owner_may};
-ghost use Rattle.phys_pages.specs.Owners.{HasSeat, IsUsed, extent, infos};
+ghost use Rattle.phys_pages.specs.Owners.{AreFramesUsed, HasSeat, IsUsed, extent, infos};
+ghost use Rattle.sv32_space.specs.Agreement.{HasUnusedFrame};
 ghost use Rattle.sv32_space.specs.EntryReach.{entry_may, side_may};
 ghost use Rattle.sv32_space.specs.SpelledEntries.{entries};
 ghost use Rattle.sv32_space.specs.declared.sides.Entry.TheVariants.{At};
 ghost use Rattle.sv32_space.specs.declared.sides.Side.{Side};
-ghost use Rattle.vm_memory.specs.Bytes.{MeansBytesOver, is_out, none_out, pages_out};
+ghost use Rattle.vm_memory.specs.Bytes.{MeansBytesOver, is_out, none_out, pages_out, used_slots};
 ghost use Rattle.vm_memory.specs.Memory.{IsUsable, has_failed, ledger, processes, ram_of, store_of};
-ghost use Rattle.vm_memory.specs.Pages.Changing.{IsFreeFrame};
 ghost use Rattle.vm_memory.specs.Pages.Exchanging.{BringsIn, IsInFrame, MovesPages, slot_reached};
 ghost use Rattle.vm_memory.specs.Sound.{IsSound};
 ghost use Rattle.vm_memory.specs.Using.EntryAccess.{entry_target, is_given_target};
@@ -61,18 +61,6 @@ fn side_gives(side: Side, access: Access) -> bool
 }
 
 impl<W: SwapStore> Memory<W> {
-    // A free frame.
-    pub(crate) fn free_frame(&self) -> Frame
-        requires sound { IsSound W.slot_count self.now }
-        requires usable { IsUsable self.now }
-        ensures { IsFreeFrame self.now.owners result.0 }
-    {
-        match self.owners.free_frame() {
-            Some(f) => f,
-            None => unreachable!(),
-        }
-    }
-
     // The frame, but not that one, whose page goes out: the search goes round from the one at hand.
     fn victim(&self, keep: Frame) -> Frame
         requires sound { IsSound W.slot_count self.now }
@@ -93,6 +81,33 @@ impl<W: SwapStore> Memory<W> {
             return Frame(start + 1);
         }
         Frame(first)
+    }
+
+    // Another page than that in the frame just filled goes out, where no frame is free. On Ok the
+    // memory may be used again.
+    pub(crate) fn put_out(&mut self, keep: Frame, to: Slot) -> Result<(), Failed>
+        requires sound { IsSound W.slot_count self.old }
+        requires under_way { has_failed self.old ≡ true }
+        requires full { AreFramesUsed self.old.owners ((extent self.old.owners).first + (extent self.old.owners).frames) }
+        requires slot { HasSeat (extent self.old.owners) (Seat.Slot to) }
+        requires free { infos self.old.owners (Seat.Slot to) ≡ None }
+        ensures moves { MovesPages W.SwapStore self.old self.new }
+        // bytes also where no page is out before and after
+        ensures over { MeansBytesOver W.SwapStore self.old self.new → ledger W.held self.new ≡ ledger W.held self.old }
+        ensures none { none_out self.new ≡ true → none_out self.old ≡ true }
+        ensures one { pages_out self.new ≤ pages_out self.old + 1 }
+        ensures out { OnOk result (pages_out self.new ≡ pages_out self.old + 1) }
+        ensures keep { (at : Place) (side : Side) → entries (processes self.old) (ram_of self.old) at ≡ Some (At side (Seat.Frame keep))
+            → entries (processes self.new) (ram_of self.new) at ≡ Some (At side (Seat.Frame keep)) }
+        ensures usable { OnOk result (IsUsable self.new) }
+        ensures failed { OnErr result (has_failed self.new ≡ true) }
+        ensures cause { OnErr result (Rose (W.faults (store_of self.old)) (W.faults (store_of self.new))) }
+    {
+        let f = self.victim(keep);
+        evict(&mut self.ram, &mut self.owners, &mut self.store, f, to)?;
+        self.hand = f.0 + 1;
+        self.failed = false;
+        Ok(())
     }
 
     // The second half of an exchange: where no frame is free, another page than that in the frame
@@ -118,14 +133,26 @@ impl<W: SwapStore> Memory<W> {
         let Some(to) = self.owners.free_slot() else {
             unreachable!();
         };
-        let f = self.victim(keep);
-        evict(&mut self.ram, &mut self.owners, &mut self.store, f, to)?;
-        self.hand = f.0 + 1;
-        self.failed = false;
-        Ok(())
+        self.put_out(keep, to)
     }
 
-    // Brings the page of a slot into a frame.
+    // Whether a frame is free while a slot is. None is where there are as many pages as there may be,
+    // so that none is searched for then.
+    fn has_free_frame(&self) -> bool
+        requires sound { IsSound W.slot_count self.now }
+        requires spare { used_slots self.now.owners < (extent self.now.owners).slots }
+        ensures yes { result ≡ true → HasUnusedFrame (extent self.now.owners) (infos self.now.owners) }
+        ensures no { result ≡ false
+            → AreFramesUsed self.now.owners ((extent self.now.owners).first + (extent self.now.owners).frames) }
+    {
+        if self.pages == self.cap() {
+            return false;
+        }
+        self.owners.free_frame().is_some()
+    }
+
+    // Brings the page of a slot into a frame. Where no other frame is free, another page goes out to
+    // that slot.
     fn exchange(&mut self, from: Slot) -> Result<(), Failed>
         requires sound { IsSound W.slot_count self.old }
         requires usable { IsUsable self.old }
@@ -142,7 +169,11 @@ impl<W: SwapStore> Memory<W> {
         let f = self.free_frame();
         self.failed = true;
         bring(&mut self.ram, &mut self.owners, &mut self.store, from, f)?;
-        self.make_room(f)
+        if self.has_free_frame() {
+            self.failed = false;
+            return Ok(());
+        }
+        self.put_out(f, from)
     }
 
     // The slot of the page that the process reaches at a place by the access, if it is out.

@@ -23,8 +23,7 @@ ghost use Rattle.xk_base.specs.Outside.{Rose};
 use crate::memory::Memory;
 use crate::memory::run_tests::{RunTest, fits};
 use phys_pages::Seat;
-use xk_base::limits::TABLE_FRAMES;
-use xk_base::{Failed, Frame, Pid, Place, Right, Vpn, Window, XousError};
+use xk_base::{Failed, Pid, Place, Right, Vpn, Window, XousError};
 use xk_ports::SwapStore;
 
 impl<W: SwapStore> Memory<W> {
@@ -64,7 +63,7 @@ impl<W: SwapStore> Memory<W> {
     }
 
     // Makes the pages of a free run, for which frames are free, one after another; the search for
-    // frames goes on from the last.
+    // each frame goes on from the last.
     fn make_pages(&mut self, first: Place, n: u32, right: Right)
         requires sound { IsSound W.slot_count self.old }
         requires usable { IsUsable self.old }
@@ -75,15 +74,14 @@ impl<W: SwapStore> Memory<W> {
         ensures slots { (s : Slot) → infos self.new.owners (Seat.Slot s) ≡ infos self.old.owners (Seat.Slot s) }
         ensures rest { ChangesPagesAlone self.old self.new }
     {
-        let mut hand = Frame(TABLE_FRAMES * self.procs);
         for i in 0..n {
-            let f = self.free_frame_from(hand);
+            let f = self.free_frame();
             let at = Place {
                 pid: first.pid,
                 vpn: Vpn(first.vpn.0 + i),
             };
             self.place_page(at, right, f);
-            hand = Frame(f.0 + 1);
+            self.hand = f.0 + 1;
         }
     }
 
@@ -153,8 +151,8 @@ impl<W: SwapStore> Memory<W> {
     /// the named page on, or at the least free run. It refuses with `BadAddress` where the run
     /// leaves the window, then with `MemoryInUse` where a place is used or no run is free, then with
     /// `OutOfMemory` past `cap`; nothing changes then. Where there are frames for all pages, none goes
-    /// out, and it takes time by n and one pass over the frames; else other pages may go out, and it
-    /// takes up to two passes over the frames and one over the slots for each new page. `Failed`, of
+    /// out, and it takes time by n and up to two passes over the frames; else other pages may go out, and
+    /// it takes up to two passes over the frames and one over the slots for each new page. `Failed`, of
     /// the store, may leave the first pages of the run.
     pub fn make(
         &mut self,

@@ -21,6 +21,10 @@ place_processes-requires-clause-room g c =
 pub place_processes-requires-clause-lawful : goal.place_processes-requires-clause-lawful
 place_processes-requires-clause-lawful g c = subst (λ (ps : List ProcPlan). All (IsLawfulProcess (length c.args.file.now)) ps) (sym c.as_slice.ensures) c.requires.lawful.procs
 
+pub place_processes-requires-clause-order : goal.place_processes-requires-clause-order
+place_processes-requires-clause-order g c =
+    record { first = λ few. c.in_ok-memory.ensures.free; past = λ over. absurd (omega (arith, over, c.in_ok-memory.ensures.none)) }
+
 pub close-requires-clause-no_loan : goal.close-requires-clause-no_loan
 close-requires-clause-no_loan g c = unlent_fresh (ledger g.W.SwapStore.held c.place_processes.new.self) c.place_processes.ensures.keeps.unlent
 

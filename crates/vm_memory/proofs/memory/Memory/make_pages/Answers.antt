@@ -1,24 +1,18 @@
-use Rattle.std.proofs.Common.{arith, refl, sym, ap, ◌≡◌, ◌*◌, ◌∙◌}
+use Rattle.std.proofs.Common.{arith, refl, sym, ap, ◌+◌, ◌∙◌}
 use Rattle.phys_pages.specs.declared.infos.Seat.TheVariants.{Slot}
-use Rattle.phys_pages.specs.Owners.{extent}
-use Rattle.sv32_space.specs.Agreement.{owned_by}
 use Rattle.ledger_model.specs.Places.{place_after}
 use Rattle.sv32_space.proofs.RunLemmas.{make_none}
-use Rattle.vm_memory.specs.Memory.{Size, ledger, processes}
-use Rattle.vm_memory.proofs.Changing.LoopLemmas.{first_same, next_free, next_lies, next_made, next_room, next_left, next_used, rest_same, rest_then, user_bound}
+use Rattle.vm_memory.specs.Memory.{ledger, processes}
+use Rattle.vm_memory.proofs.Changing.LoopLemmas.{handed_ledger, handed_rest, handed_sound, next_free, next_lies, next_made, next_room, next_left, rest_same, rest_then, user_bound}
 use Rattle.vm_memory.proofs.memory.Memory.make_pages.Goals as goal
 
 pub loop-i-init : goal.loop-i-init
-loop-i-init g c =
-    let first : (extent c.args.self.now.owners).first ≡ 21 * processes c.args.self.now = c.requires.sound.agree.first in
-    record {
-      sound = c.requires.sound;
-      ledger = sym (make_none c.args.first c.args.right (ledger g.W.SwapStore.held c.args.self.now));
-      rest = rest_same c.args.self.now;
-      slots = λ s. refl;
-      low = omega (arith, c.requires.sound.procs);
-      used = λ k from to. absurd (omega (arith, from, to, first, c.requires.sound.procs));
-    }
+loop-i-init g c = record {
+  sound = c.requires.sound;
+  ledger = sym (make_none c.args.first c.args.right (ledger g.W.SwapStore.held c.args.self.now));
+  rest = rest_same c.args.self.now;
+  slots = λ s. refl;
+}
 
 pub overflow_add-at : goal.overflow_add-at
 overflow_add-at g c = omega (
@@ -49,16 +43,12 @@ place_page-requires-clause-left g c = λ usable.
     c.loop-i-test.true c.args.right c.requires.can c.loop-i.invariant.ledger c.requires.sound c.requires.frames
 
 pub loop-i-preserved : goal.loop-i-preserved
-loop-i-preserved g c =
-    let same : processes c.place_page.new.self ≡ processes c.loop-i.self = ap (λ (s : Size). s.procs) c.place_page.ensures.rest.size in
-    record {
-      sound = c.place_page.ensures.sound;
-      ledger = next_made g.W.SwapStore c.args.self.now c.loop-i.self c.loop-i.invariant.sound c.loop-i.invariant.rest c.args.first c.args.n c.loop-i.i
-          c.loop-i-test.true c.args.right c.requires.can c.loop-i.invariant.ledger c.place_page.new.self c.place_page.ensures.ledger;
-      rest = rest_then c.args.self.now c.loop-i.self c.place_page.new.self c.loop-i.invariant.rest c.place_page.ensures.rest;
-      slots = λ s. ap (λ I. I (Slot s)) c.place_page.ensures.owners ∙ c.loop-i.invariant.slots s;
-      low = omega (arith, same, c.loop-i.invariant.low, c.free_frame_from-f.ensures.low);
-      used = next_used c.loop-i.self.owners c.place_page.new.self.owners c.free_frame_from-f.result (owned_by (place_after c.args.first c.loop-i.i))
-          (first_same g.W.SwapStore.slot_count c.loop-i.self c.place_page.new.self c.loop-i.invariant.sound c.place_page.ensures.sound c.place_page.ensures.rest.size)
-          c.place_page.ensures.owners c.free_frame_from-f.ensures.used;
-    }
+loop-i-preserved g c = record {
+  sound = handed_sound g.W.SwapStore c.place_page.new.self c.place_page.ensures.sound (c.free_frame-f.result.0 + 1);
+  ledger = handed_ledger g.W.SwapStore.held c.place_page.new.self (c.free_frame-f.result.0 + 1)
+      ∙ next_made g.W.SwapStore c.args.self.now c.loop-i.self c.loop-i.invariant.sound c.loop-i.invariant.rest c.args.first c.args.n c.loop-i.i
+      c.loop-i-test.true c.args.right c.requires.can c.loop-i.invariant.ledger c.place_page.new.self c.place_page.ensures.ledger;
+  rest = handed_rest c.args.self.now c.place_page.new.self (c.free_frame-f.result.0 + 1)
+      (rest_then c.args.self.now c.loop-i.self c.place_page.new.self c.loop-i.invariant.rest c.place_page.ensures.rest);
+  slots = λ s. ap (λ I. I (Slot s)) c.place_page.ensures.owners ∙ c.loop-i.invariant.slots s;
+}

@@ -1,31 +1,13 @@
-use Rattle.std.proofs.Common.{false, refl, ap, sym, ◌∙◌, ◌≡◌, ◌+◌, ◌≤◌, arith}
-use Rattle.std.proofs.lemmas.Bool.{false≢true}
-use Rattle.phys_pages.specs.Owners.{Extent, extent, infos}
-use Rattle.vm_memory.specs.Bytes.{is_known, none_out, used_slots}
-use Rattle.vm_memory.specs.Memory.{ledger}
+use Rattle.std.proofs.Common.{false, sym, ◌∙◌}
+use Rattle.phys_pages.specs.Owners.{extent, infos}
 use Rattle.vm_memory.proofs.Changing.CrowdedLemmas.{marked_ledger, marked_none}
-use Rattle.vm_memory.proofs.Changing.ShiftedLemmas.{all_slots, goes_out, left_free, found_room, frame_used, kept_seat, moved_in, none_all_used, one_out, over_splits, slot_left, some_room, some_slot_free, some_slot_within, stays_near, still_as_many, still_none, still_whole, unmoved}
+use Rattle.vm_memory.proofs.Changing.ShiftedLemmas.{all_slots, none_all_used, slot_left, some_room, some_slot_free, some_slot_within, unmoved}
 use Rattle.vm_memory.proofs.memory.Memory.make_room.Goals as goal
 
 pub unreachable-requires : goal.unreachable-requires
 unreachable-requires g c = slot_left g.W.SwapStore.slot_count c.args.self.now c.requires.sound
     (none_all_used (extent c.args.self.now.owners) c.args.self.now.owners c.free_frame.result c.free_frame.ensures.none (sym c.is_some.ensures ∙ c.if-is_some.false))
     (all_slots c.args.self.now.owners c.free_slot.result c.free_slot.ensures.none c.in_default.is)
-
-pub returns-in_err-evict-clause-moves : goal.returns-in_err-evict-clause-moves
-returns-in_err-evict-clause-moves g c = moved_in g.W.SwapStore c.args.self.now c.requires.sound c.evict.new.ram c.evict.new.owners c.evict.new.store c.args.self.now.failed c.args.self.now.hand
-    c.evict.ensures.agrees c.evict.ensures.sizes c.evict.ensures.rights c.evict.ensures.whole c.evict.ensures.store (λ usable. absurd (false≢true (sym usable ∙ c.requires.under_way)))
-
-pub returns-in_err-evict-clause-none : goal.returns-in_err-evict-clause-none
-returns-in_err-evict-clause-none g c = still_none g.W.SwapStore c.args.self.now c.requires.sound c.evict.new.ram c.evict.new.owners c.evict.new.store c.args.self.now.failed c.args.self.now.hand
-    c.in_err-evict.ensures.err c.evict.ensures.pages
-
-pub returns-in_err-evict-clause-over : goal.returns-in_err-evict-clause-over
-unfolding ledger
-returns-in_err-evict-clause-over g c = λ over. over_splits (is_known g.W.SwapStore c.args.self.now) (none_out c.args.self.now) (none_out _) over
-    (λ known. c.evict.ensures.whole known)
-    (λ none none_new. still_whole g.W.SwapStore c.args.self.now c.requires.sound c.evict.new.ram c.evict.new.owners c.evict.new.store c.args.self.now.failed c.args.self.now.hand
-    c.in_err-evict.ensures.err c.evict.ensures.pages none)
 
 -- a frame is free
 pub returns-then-is_some-clause-moves : goal.returns-then-is_some-clause-moves
@@ -39,65 +21,11 @@ returns-then-is_some-clause-over g c = λ over. marked_ledger g.W.SwapStore.held
 pub returns-then-is_some-clause-none : goal.returns-then-is_some-clause-none
 returns-then-is_some-clause-none g c = λ none. sym (marked_none c.args.self.now false) ∙ none
 
-pub evict-requires-clause-used : goal.evict-requires-clause-used
-evict-requires-clause-used g c = frame_used c.args.self.now.owners c.free_frame.result c.free_frame.ensures.none (sym c.is_some.ensures ∙ c.if-is_some.false) c.victim-f.result c.victim-f.ensures.within
+pub put_out-requires-clause-full : goal.put_out-requires-clause-full
+put_out-requires-clause-full g c = none_all_used (extent c.args.self.now.owners) c.args.self.now.owners c.free_frame.result c.free_frame.ensures.none (sym c.is_some.ensures ∙ c.if-is_some.false)
 
-pub evict-requires-clause-slots : goal.evict-requires-clause-slots
-evict-requires-clause-slots g c = omega (arith, c.requires.sound.slots, c.requires.sound.store)
+pub put_out-requires-clause-slot : goal.put_out-requires-clause-slot
+put_out-requires-clause-slot g c = some_slot_within c.args.self.now.owners c.free_slot.result c.free_slot.ensures.within c.in-Some.to c.in-Some.is
 
-pub returns-clause-moves : goal.returns-clause-moves
-returns-clause-moves g c = moved_in g.W.SwapStore c.args.self.now c.requires.sound c.evict.new.ram c.evict.new.owners c.evict.new.store false (c.victim-f.result.0 + 1)
-    c.evict.ensures.agrees c.evict.ensures.sizes c.evict.ensures.rights c.evict.ensures.whole c.evict.ensures.store
-    (λ usable. found_room (extent c.evict.new.owners) (infos c.evict.new.owners) c.victim-f.result (kept_seat (extent c.args.self.now.owners) (extent c.evict.new.owners) c.evict.ensures.sizes.extent c.victim-f.result c.victim-f.ensures.within)
-    (left_free c.args.self.now c.evict.new.ram c.evict.new.owners c.victim-f.result c.in-Some.to c.in_ok-evict.ensures.ok))
-
-pub returns-clause-none : goal.returns-clause-none
-returns-clause-none g c = λ none. goes_out c.args.self.now c.evict.new.ram c.evict.new.owners c.victim-f.result c.in-Some.to c.in_ok-evict.ensures.ok
-    (frame_used c.args.self.now.owners c.free_frame.result c.free_frame.ensures.none
-    (sym c.is_some.ensures ∙ c.if-is_some.false) c.victim-f.result c.victim-f.ensures.within)
-    (record c.args.self.now {
-      ram = c.evict.new.ram;
-      owners = c.evict.new.owners;
-      store = c.evict.new.store;
-      hand = c.victim-f.result.0 + 1;
-      failed = false;
-    }) refl none
-
-pub returns-clause-over : goal.returns-clause-over
-unfolding ledger
-returns-clause-over g c = λ over. over_splits (is_known g.W.SwapStore c.args.self.now) (none_out c.args.self.now) (none_out (record c.args.self.now { ram = c.evict.new.ram; owners = c.evict.new.owners; store = c.evict.new.store; hand = c.victim-f.result.0 + 1; failed = false })) over
-    (λ known. c.evict.ensures.whole known)
-    (λ none none_new. goes_out c.args.self.now c.evict.new.ram c.evict.new.owners c.victim-f.result c.in-Some.to c.in_ok-evict.ensures.ok
-    (frame_used c.args.self.now.owners c.free_frame.result c.free_frame.ensures.none
-    (sym c.is_some.ensures ∙ c.if-is_some.false) c.victim-f.result c.victim-f.ensures.within)
-    (record c.args.self.now {
-      ram = c.evict.new.ram;
-      owners = c.evict.new.owners;
-      store = c.evict.new.store;
-      hand = c.victim-f.result.0 + 1;
-      failed = false;
-    }) refl none_new)
-
-pub returns-in_err-evict-clause-keep : goal.returns-in_err-evict-clause-keep
-returns-in_err-evict-clause-keep g c = λ at side e. ap (λ E. E at) c.in_err-evict.ensures.err.entries ∙ e
-
-pub returns-clause-keep : goal.returns-clause-keep
-returns-clause-keep g c = stays_near c.args.self.now c.evict.new.ram c.evict.new.owners c.victim-f.result c.in-Some.to c.in_ok-evict.ensures.ok c.args.keep c.victim-f.ensures.other
-
-pub returns-in_err-evict-clause-one : goal.returns-in_err-evict-clause-one
-returns-in_err-evict-clause-one g c =
-    let same : used_slots c.evict.new.owners ≤ used_slots c.args.self.now.owners =
-    still_as_many g.W.SwapStore c.args.self.now c.requires.sound c.evict.new.ram c.evict.new.owners c.evict.new.store c.args.self.now.failed c.args.self.now.hand
-    c.in_err-evict.ensures.err c.evict.ensures.pages (ap (λ (t : Extent). t.slots) c.evict.ensures.sizes.extent) in
-    omega (arith, same)
-
-pub returns-clause-one : goal.returns-clause-one
-returns-clause-one g c =
-    let more : used_slots c.evict.new.owners ≡ used_slots c.args.self.now.owners + 1 =
-    one_out c.args.self.now c.evict.new.ram c.evict.new.owners c.victim-f.result c.in-Some.to c.in_ok-evict.ensures.ok
-    (ap (λ (t : Extent). t.slots) c.evict.ensures.sizes.extent)
-    (some_slot_within c.args.self.now.owners c.free_slot.result c.free_slot.ensures.within c.in-Some.to c.in-Some.is)
-    (some_slot_free c.args.self.now.owners c.free_slot.result c.free_slot.ensures.found c.in-Some.to c.in-Some.is)
-    (frame_used c.args.self.now.owners c.free_frame.result c.free_frame.ensures.none
-    (sym c.is_some.ensures ∙ c.if-is_some.false) c.victim-f.result c.victim-f.ensures.within) in
-    omega (arith, more)
+pub put_out-requires-clause-free : goal.put_out-requires-clause-free
+put_out-requires-clause-free g c = some_slot_free c.args.self.now.owners c.free_slot.result c.free_slot.ensures.found c.in-Some.to c.in-Some.is

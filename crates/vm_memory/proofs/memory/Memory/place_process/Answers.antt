@@ -35,7 +35,7 @@ pages-preserved g c = record {
       c.requires.sound c.requires.process c.requires.unlent c.requires.free c.requires.room c.requires.lawful c.requires.different
       c.pages.self c.pages.k c.pages-test.true other c.pages.invariant
       c.place_first.new.self c.place_first.ensures.placed;
-  order = c.place_first.ensures.order;
+  order = c.in_ok-place_first.ensures.order;
   usable = c.in_ok-place_first.ensures.usable;
 }
 
