@@ -1,4 +1,5 @@
 pub mod HeldLemmas
+pub mod JoinedLemmas
 pub mod LineLemmas
 pub mod PlayLemmas
 pub mod WholeLemmas

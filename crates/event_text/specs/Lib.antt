@@ -1,3 +1,4 @@
+pub mod Joined
 pub mod Lines
 pub mod EventFile
 pub mod Held

@@ -3,6 +3,7 @@
 
 ghost use Rattle.event_text.specs.EventFile.{input_of};
 ghost use Rattle.event_text.specs.Held.{IsWaiting, Reader, after_next, answer_of, front_of, past_blanks};
+ghost use Rattle.event_text.specs.Joined.{JoinedAsk};
 ghost use Rattle.event_text.specs.Lines.{whole_lines};
 ghost use Rattle.event_text.specs.Plays.{Call, MayFollow, left_of, play_of, with_events};
 ghost use Rattle.event_text.specs.declared.event.Line.TheVariants as line;
@@ -46,4 +47,10 @@ pub fn bad_line_again()
 /// An answer is by the first line held once no good line at the front is no event.
 pub fn no_blank_left()
     ensures { (r : Reader) → front_of (past_blanks r) ≢ Some line.Blank }
+{}
+
+/// Two files behind one another, of which the first is whole lines and none of them bad, ask for the events of the first, and then for
+/// what the second asks for, its lines counted on.
+pub fn joined_files()
+    ensures { JoinedAsk }
 {}

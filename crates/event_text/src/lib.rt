@@ -10,7 +10,7 @@ mod words;
 
 pub use event::NextEvent;
 pub use laws::{
-    bad_line_again, end_of_file, events_in_order, first_bad_line, no_blank_left,
+    bad_line_again, end_of_file, events_in_order, first_bad_line, joined_files, no_blank_left,
     whole_lines_answered,
 };
 pub use numbers::read_digits;

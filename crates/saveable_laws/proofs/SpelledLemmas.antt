@@ -1,7 +1,6 @@
 -- State bytes tell states apart.
 use Rattle.std.proofs.Common.{◌≡◌, ◌∙◌, ℕ, List, sym, ap, subst}
 use Rattle.machine_model.specs.Runs.Matched.{Matched}
-use Rattle.machine_model.specs.State.Machine.{Machine}
 use Rattle.state_rows.specs.declared.state.State.{State}
 use Rattle.state_rows.specs.Machines.{machine_of}
 use Rattle.suspend_image.specs.Forms.{Spells}
@@ -10,7 +9,7 @@ use Rattle.suspend_image.specs.StateBytes.{saved_bytes}
 use Rattle.suspend_image.proofs.Saved.StateAgainLemmas.{saved_spelled}
 use Rattle.suspend_image.proofs.Saved.StateBackLemmas.{spelled_is_saved}
 use Rattle.suspend_image.proofs.SpellsLemmas.{spelled_once}
-use Rattle.saveable_laws.specs.Spelled.{BytesTellStates, IsSpelled, SpellableSpelled, SpelledBySaved}
+use Rattle.saveable_laws.specs.Spelled.{BytesTellStates, SpellableSpelled, SpelledBySaved}
 
 pub spelled_by_saved : SpelledBySaved
 spelled_by_saved m is =

@@ -6,3 +6,4 @@ pub mod Output
 pub mod ReserverLemmas
 pub mod ResumedLemmas
 pub mod Splitting
+pub mod Suspended

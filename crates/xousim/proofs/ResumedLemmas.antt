@@ -50,7 +50,7 @@ suspended_is_resumed before limit start file state matched saveable cut =
 -- ---- the history of all events
 
 -- where the limit isn't met, what follows comes behind
-unmet_joined : (first : History) (next : Machine → History) → first.met ≡ false → IsJoined (followed_by first next) first (next first.machine)
+pub unmet_joined : (first : History) (next : Machine → History) → first.met ≡ false → IsJoined (followed_by first next) first (next first.machine)
 unmet_joined first next unmet =
     let same : followed_by first next ≡ go_on false first next = ap (λ (b : Bool). go_on b first next) unmet in
     subst (λ (whole : History). IsJoined whole first (next first.machine)) (sym same) (record { records = refl; last = refl; met = refl })
@@ -69,7 +69,7 @@ resumed_goes_on before after limit start file state matched saveable cut =
 
 -- ---- the limit
 
-within_limit : (limit : ℕ) (m : Machine) → m.steps ≤ limit → limit_from limit m ≡ limit
+pub within_limit : (limit : ℕ) (m : Machine) → m.steps ≤ limit → limit_from limit m ≡ limit
 within_limit limit m within =
     let test : nat_le m.steps limit ≡ true = grind (arith, nat_tests) in
     ap (λ (b : Bool). if b then limit else m.steps) test

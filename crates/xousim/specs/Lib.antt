@@ -7,4 +7,5 @@ pub mod Splits
 pub mod StateFiles
 pub mod Status
 pub mod Summary
+pub mod SuspendedCalls
 pub mod Words

@@ -1,5 +1,6 @@
 -- Two setups that have one capacity, split in their own ways into frames of RAM and slots of the swap store.
-use Rattle.std.specs.Prelude.{◌≡◌, ℕ, ◌-◌, ◌*◌, ◌/◌, Bool, false, ◌&&◌, ◌||◌, nat_le, nat_lt, List, length, map, drop, slice_index, Option, None}
+use Rattle.std.specs.Prelude.{◌≡◌, ℕ, ◌-◌, ◌*◌, ◌/◌, Bool, false, ◌&&◌, ◌||◌, nat_le, nat_lt, List, length, map, drop}
+use Rattle.std.specs.Prelude.{slice_index, Option, None}
 use Rattle.kernel_args.specs.declared.args.Args.{Args}
 use Rattle.kernel_args.specs.declared.args.ProcArgs.{ProcArgs}
 use Rattle.boot_plan.specs.Capacity.{capacity}
@@ -37,7 +38,8 @@ pub record HasCapacity (setup : Setup) (pages : ℕ) : Type 0 where
   pub sound : IsSoundImage setup.image setup.asked args
   pub room : pages ≡ capacity (args.ram_size / 4096) (length args.procs) (slots_used args setup.asked)
 
--- Two setups load the same, and are free in how they split their capacity: by RAM, by the slots asked for, and by those that the images give.
+-- Two setups load the same, and are free in how they split their capacity: by RAM, by the slots asked for, and by those that the images
+-- give.
 pub record SplitOneCapacity (one other : Setup) : Type 0 where
   pub pages : ℕ
   pub capacity : HasCapacity one pages

@@ -16,6 +16,7 @@ ghost use Rattle.xousim.specs.Outcome.Images.{Boots};
 ghost use Rattle.xousim.specs.Outcome.Resumes.{limit_from};
 ghost use Rattle.xousim.specs.Resumed.{IsCut, IsJoined};
 ghost use Rattle.xousim.specs.StateFiles.{Restores};
+ghost use Rattle.xousim.specs.SuspendedCalls.{EndAsOne, IsOneRun, TwoPartRun};
 
 /// A state is read of the bytes of each state to which events lead, and it is that one. The numbers of
 /// the state fit into words, as they do in each state that a kernel holds: of every state that `suspend`
@@ -60,5 +61,13 @@ pub fn begun_run_goes_on()
         → start.steps ≤ limit → limit ≤ 4000000000 → IsCut before limit start file state
         → IsJoined (history (before ++ after) limit start) (history before limit start) (history after limit (machine_of file state)) }
     ensures limit { (before : List Event) (limit : ℕ) (start : Machine) (file : List ℕ) (state : State) → Begins start
-        → start.steps ≤ limit → limit ≤ 4000000000 → IsCut before limit start file state → limit_from limit (machine_of file state) ≡ limit }
+        → start.steps ≤ limit → limit ≤ 4000000000 → IsCut before limit start file state
+        → limit_from limit (machine_of file state) ≡ limit }
+{}
+
+/// A call of `suspend` that ends Done writes a file that isn't too long for a state file, and a call of `resume` that plays later events on
+/// it, with the slots of the run and up to the same step limit, ends as one call of `trace` does that plays all events: with its status, in
+/// which lines are counted on. `trace` writes what is told of the events before, and then what `resume` wrote.
+pub fn suspended_calls_end_as_one()
+    ensures { (run : TwoPartRun) → IsOneRun run → EndAsOne run }
 {}

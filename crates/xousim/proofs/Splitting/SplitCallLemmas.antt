@@ -27,13 +27,13 @@ use Rattle.xousim.specs.Words.{Play}
 use Rattle.xousim.proofs.Splitting.SplitLemmas.{splits_play_alike}
 
 -- the setup boots a machine, on which the events were played to an end, and all that is told of that was written
-record PlayedOut (setup : Setup) (events : List ℕ) (play : Play) (call : Call) : Type 0 where
-  machine : Machine
-  boots : Boots setup.image setup.asked machine
-  status : call.status ≡ status_of play.limit (run_of play.limit machine events).ending
-  written : Grows call.out.written call.out.written_after (output play.tells (run_of play.limit machine events))
+pub record PlayedOut (setup : Setup) (events : List ℕ) (play : Play) (call : Call) : Type 0 where
+  pub machine : Machine
+  pub boots : Boots setup.image setup.asked machine
+  pub status : call.status ≡ status_of play.limit (run_of play.limit machine events).ending
+  pub written : Grows call.out.written call.out.written_after (output play.tells (run_of play.limit machine events))
 
-not_whole : true ≡ false → ⊥
+pub not_whole : true ≡ false → ⊥
 not_whole e = cc
 
 not_stopped : (plan : BootPlan) (name : Option (List ℕ)) (start : Machine) (store : StoreSide) (status : Status) → Stops plan name start store status
@@ -48,7 +48,7 @@ not_stopped plan name start store (ImageFault fault) s whole = s
 not_stopped plan name start store (EventFault line) s whole = s
 not_stopped plan name start store (StepLimit limit) s whole = s
 
-ran : (play : Play) (booted : Booted) (call : Call) (status : Status) → Tells play booted call status → HasCause play booted.room booted.machine call status
+pub ran : (play : Play) (booted : Booted) (call : Call) (status : Status) → Tells play booted call status → HasCause play booted.room booted.machine call status
     → is_cut_short status ≡ false → (ending : Ending) × Ran play booted call ending × (status ≡ status_of play.limit ending)
 ran play booted call Done tells cause whole = (Played, tells, refl)
 ran play booted call (EventFault line) tells cause whole = (BadLine line, tells, refl)
@@ -100,7 +100,7 @@ module _ (setup : Setup) (events : List ℕ) (play : Play) (call : Call) (plays 
         written = subst (λ (bytes : List ℕ). Grows call.out.written call.out.written_after (output play.tells (run_of play.limit e.machine bytes))) same wrote.written;
       }
 
-  out_of : EndsPlay play call → PlayedOut setup events play call
+  pub out_of : EndsPlay play call → PlayedOut setup events play call
   out_of (inl refused) = absurd (not_refused call.status refused.image.refused plays.whole)
   out_of (inr (inl unstarted)) = absurd (not_stopped (plan_in unstarted.image) play.store unstarted.machine call.store call.status unstarted.stopped plays.whole)
   out_of (inr (inr (inl unpicked))) = absurd (not_whole (sym (ap is_cut_short unpicked.ended) ∙ plays.whole))

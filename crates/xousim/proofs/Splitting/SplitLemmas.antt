@@ -265,7 +265,7 @@ module _ (one other : Setup) (args others : Args) (alike : LoadAlike one.image o
 -- ---- machines
 
 -- a setup without a fault boots the start of its plan, and nothing else
-only_start : (setup : Setup) (machine : Machine) (args : Args) → IsSoundImage setup.image setup.asked args → Boots setup.image setup.asked machine
+pub only_start : (setup : Setup) (machine : Machine) (args : Args) → IsSoundImage setup.image setup.asked args → Boots setup.image setup.asked machine
     → machine ≡ start (plan_of args setup.asked) setup.image
 only_start setup machine args sound boots =
     boots.start ∙ ap (λ (a : Args). start (plan_of a setup.asked) setup.image) (spelled_once setup.image boots.args args boots.sound.spelled sound.spelled)
