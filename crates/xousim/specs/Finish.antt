@@ -30,11 +30,7 @@ Finishes play machine ending out (StepLimit limit) =
     (limit ≡ play.limit) × (ending ≡ LimitMet) × Grows out.written out.written_after (closing play.tells machine ending)
 Finishes play machine ending out WriteFault =
     Rose out.faults out.faults_after × GrowsByProperPrefix out.written out.written_after (closing play.tells machine ending)
-Finishes play machine ending out Usage = ⊥
-Finishes play machine ending out SwapFault = ⊥
-Finishes play machine ending out ReadFault = ⊥
-Finishes play machine ending out NoMemory = ⊥
-Finishes play machine ending out (ImageFault fault) = ⊥
+Finishes play machine ending out _ = ⊥
 
 -- The image of a command is what was booted, and the store was prepared for it.
 pub record Starts (play : Play) (files : Told) (booted : Booted) (store : StoreSide) : Type 0 where
@@ -68,24 +64,14 @@ abbrev pub SavesState : Machine → SinkSide → Status → Type 0
 SavesState machine out Done = IsSpellable machine × Grows out.written out.written_after (saved_bytes machine)
 SavesState machine out WriteFault = GrowsByProperPrefix out.written out.written_after (saved_bytes machine)
 SavesState machine out SwapFault = Unit {0}
-SavesState machine out Usage = ⊥
-SavesState machine out ReadFault = ⊥
-SavesState machine out NoMemory = ⊥
-SavesState machine out (ImageFault fault) = ⊥
-SavesState machine out (EventFault line) = ⊥
-SavesState machine out (StepLimit limit) = ⊥
+SavesState machine out _ = ⊥
 
 -- whose count rose as it was saved, by the status: the store's only where a page is out, and then nothing was written
 abbrev pub HasSaveCause : Bool → SinkSide → StoreSide → Status → Type 0
 HasSaveCause near out store Done = Unit {0}
 HasSaveCause near out store WriteFault = Rose out.faults out.faults_after
 HasSaveCause near out store SwapFault = StoreRose store × (near ≡ false) × (out.written_after ≡ out.written)
-HasSaveCause near out store Usage = ⊥
-HasSaveCause near out store ReadFault = ⊥
-HasSaveCause near out store NoMemory = ⊥
-HasSaveCause near out store (ImageFault fault) = ⊥
-HasSaveCause near out store (EventFault line) = ⊥
-HasSaveCause near out store (StepLimit limit) = ⊥
+HasSaveCause near out store _ = ⊥
 
 -- the event file was picked, its events were played, and the last state was saved
 pub record EndsSavedPicked (suspend : Suspend) (booted : Booted) (call : Call) : Type 0 where

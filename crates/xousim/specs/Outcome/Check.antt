@@ -16,13 +16,7 @@ use Rattle.xousim.specs.Words.{Check}
 abbrev pub Summarizes : BootPlan → SinkSide → Status → Type 0
 Summarizes plan out Done = Grows out.written out.written_after (summary_of plan)
 Summarizes plan out WriteFault = GrowsByProperPrefix out.written out.written_after (summary_of plan)
-Summarizes plan out Usage = ⊥
-Summarizes plan out ReadFault = ⊥
-Summarizes plan out NoMemory = ⊥
-Summarizes plan out SwapFault = ⊥
-Summarizes plan out (ImageFault fault) = ⊥
-Summarizes plan out (EventFault line) = ⊥
-Summarizes plan out (StepLimit limit) = ⊥
+Summarizes plan out _ = ⊥
 
 -- the image alone is asked for, and its plan is told
 pub record EndsPlanned (check : Check) (call : Call) : Type 0 where

@@ -35,12 +35,7 @@ abbrev pub Writes : List ℕ → SinkSide → Status → Type 0
 Writes bytes out Done = (length bytes ≤ IMAGE_LIMIT) × Grows out.written out.written_after bytes
 Writes bytes out WriteFault = (length bytes ≤ IMAGE_LIMIT) × GrowsByProperPrefix out.written out.written_after bytes
 Writes bytes out (ImageFault fault) = (IMAGE_LIMIT < length bytes) × (fault ≡ long_file) × (out.written_after ≡ out.written)
-Writes bytes out Usage = ⊥
-Writes bytes out ReadFault = ⊥
-Writes bytes out NoMemory = ⊥
-Writes bytes out SwapFault = ⊥
-Writes bytes out (EventFault line) = ⊥
-Writes bytes out (StepLimit limit) = ⊥
+Writes bytes out _ = ⊥
 
 -- the image alone is asked for, and what it is converted into is written
 pub record EndsConverted (image : List ℕ) (call : Call) : Type 0 where

@@ -18,16 +18,11 @@ abbrev pub TellsDemo : ℕ → SinkSide → StoreSide → Status → Type 0
 TellsDemo clients out store Done = Grows out.written out.written_after (demo_line clients (totals_of (load_history clients).records))
 TellsDemo clients out store WriteFault =
     GrowsByProperPrefix out.written out.written_after (demo_line clients (totals_of (load_history clients).records))
-TellsDemo clients out store NoMemory = ⊥
 TellsDemo clients out store SwapFault =
     StoreRose store
     × ComesFull (room_of (load_plan clients)) (load_machine clients) (moments_of (load_events clients) DEFAULT_STEPS (load_machine clients))
     × (out.written_after ≡ out.written)
-TellsDemo clients out store Usage = ⊥
-TellsDemo clients out store ReadFault = ⊥
-TellsDemo clients out store (ImageFault fault) = ⊥
-TellsDemo clients out store (EventFault line) = ⊥
-TellsDemo clients out store (StepLimit limit) = ⊥
+TellsDemo clients out store _ = ⊥
 
 -- the load isn't played, and nothing was written
 pub record DemoUnstarted (clients : ℕ) (out : SinkSide) (store : StoreSide) (status : Status) : Type 0 where

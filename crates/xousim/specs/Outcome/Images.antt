@@ -49,24 +49,13 @@ abbrev pub Refuses : Told → List ℕ → Option ℕ → Type 0 → Status → 
 Refuses file name asked host_rose (ImageFault fault) = (image : List ℕ) × IsFile file name image × IsImageFault image asked (Some fault)
 Refuses file name asked host_rose ReadFault = host_rose
 Refuses file name asked host_rose NoMemory = Unit {0}
-Refuses file name asked host_rose Done = ⊥
-Refuses file name asked host_rose Usage = ⊥
-Refuses file name asked host_rose SwapFault = ⊥
-Refuses file name asked host_rose (EventFault line) = ⊥
-Refuses file name asked host_rose (StepLimit limit) = ⊥
-Refuses file name asked host_rose WriteFault = ⊥
+Refuses file name asked host_rose _ = ⊥
 
 -- the same of bytes that were read
 abbrev pub RefusesBytes : List ℕ → Option ℕ → Status → Type 0
 RefusesBytes image asked (ImageFault fault) = IsImageFault image asked (Some fault)
 RefusesBytes image asked NoMemory = Unit {0}
-RefusesBytes image asked ReadFault = ⊥
-RefusesBytes image asked Done = ⊥
-RefusesBytes image asked Usage = ⊥
-RefusesBytes image asked SwapFault = ⊥
-RefusesBytes image asked (EventFault line) = ⊥
-RefusesBytes image asked (StepLimit limit) = ⊥
-RefusesBytes image asked WriteFault = ⊥
+RefusesBytes image asked _ = ⊥
 
 -- The image isn't planned, and nothing is written. It was asked for at the first slot and picked there or not, and nothing else was.
 pub record EndsUnplanned (image : List ℕ) (slots : Option ℕ) (call : Call) : Type 0 where

@@ -78,9 +78,7 @@ Tells play booted call (StepLimit limit) = Ran play booted call LimitMet
 Tells play booted call SwapFault = RanSomeSteps play booted call
 Tells play booted call WriteFault = RanInPart play booted call
 Tells play booted call ReadFault = RanWholeLines play booted call
-Tells play booted call Usage = ⊥
-Tells play booted call NoMemory = ⊥
-Tells play booted call (ImageFault fault) = ⊥
+Tells play booted call _ = ⊥
 
 -- ---- why it ended
 
@@ -98,9 +96,7 @@ HasCause play room machine call SwapFault = StoreRose call.store × RanFull play
 HasCause play room machine call (StepLimit limit) = limit ≡ play.limit
 HasCause play room machine call Done = Unit {0}
 HasCause play room machine call (EventFault line) = Unit {0}
-HasCause play room machine call Usage = ⊥
-HasCause play room machine call NoMemory = ⊥
-HasCause play room machine call (ImageFault fault) = ⊥
+HasCause play room machine call _ = ⊥
 
 -- ---- calls
 

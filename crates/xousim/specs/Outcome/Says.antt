@@ -58,9 +58,7 @@ abbrev pub Starts : Told → Command → Run → Type 0
 Starts file (Plays play) run = StartsOnImage file play run
 Starts file (Suspends suspend) run = StartsOnImage file (silent suspend) run
 Starts file (Resumes resume) run = StartsOnState file resume run
-Starts file (Checks check) run = ⊥
-Starts file (Converts image) run = ⊥
-Starts file (Demo clients) run = ⊥
+Starts file _ run = ⊥
 
 -- the name of its event file
 abbrev pub event_name : Command → List ℕ

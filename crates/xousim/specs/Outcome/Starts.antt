@@ -38,13 +38,7 @@ abbrev pub StopsIn : Room → ℕ → Option (List ℕ) → Machine → StoreSid
 StopsIn room slots name start store NoMemory = (store.asked_after ≡ store.asked) ⊎ Prepares store slots name true
 StopsIn room slots name start store SwapFault =
     StoreRose store × (Prepares store slots name false ⊎ (Prepares store slots name true × IsFull room start))
-StopsIn room slots name start store Done = ⊥
-StopsIn room slots name start store Usage = ⊥
-StopsIn room slots name start store ReadFault = ⊥
-StopsIn room slots name start store WriteFault = ⊥
-StopsIn room slots name start store (ImageFault fault) = ⊥
-StopsIn room slots name start store (EventFault line) = ⊥
-StopsIn room slots name start store (StepLimit limit) = ⊥
+StopsIn room slots name start store _ = ⊥
 
 -- a run of this plan doesn't start
 abbrev pub Stops : BootPlan → Option (List ℕ) → Machine → StoreSide → Status → Type 0

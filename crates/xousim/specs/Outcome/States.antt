@@ -25,21 +25,10 @@ abbrev pub RefusesState : Told → List ℕ → ℕ → Type 0 → Status → Ty
 RefusesState file name slots host_rose (ImageFault fault) = (bytes : List ℕ) × IsFile file name bytes × IsStateFault bytes slots fault
 RefusesState file name slots host_rose ReadFault = host_rose
 RefusesState file name slots host_rose NoMemory = Unit {0}
-RefusesState file name slots host_rose Done = ⊥
-RefusesState file name slots host_rose Usage = ⊥
-RefusesState file name slots host_rose SwapFault = ⊥
-RefusesState file name slots host_rose (EventFault line) = ⊥
-RefusesState file name slots host_rose (StepLimit limit) = ⊥
-RefusesState file name slots host_rose WriteFault = ⊥
+RefusesState file name slots host_rose _ = ⊥
 
 -- the same of bytes that were read
 abbrev pub RefusesStateBytes : List ℕ → ℕ → Status → Type 0
 RefusesStateBytes bytes slots (ImageFault fault) = IsStateFault bytes slots fault
 RefusesStateBytes bytes slots NoMemory = Unit {0}
-RefusesStateBytes bytes slots ReadFault = ⊥
-RefusesStateBytes bytes slots Done = ⊥
-RefusesStateBytes bytes slots Usage = ⊥
-RefusesStateBytes bytes slots SwapFault = ⊥
-RefusesStateBytes bytes slots (EventFault line) = ⊥
-RefusesStateBytes bytes slots (StepLimit limit) = ⊥
-RefusesStateBytes bytes slots WriteFault = ⊥
+RefusesStateBytes bytes slots _ = ⊥

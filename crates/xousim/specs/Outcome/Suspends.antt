@@ -79,9 +79,7 @@ Saves suspend booted call (StepLimit limit) = RanUnsaved suspend booted call Lim
 Saves suspend booted call SwapFault = IsUnwritten call
 Saves suspend booted call WriteFault = RanSavedInPart suspend booted call
 Saves suspend booted call ReadFault = RanWholeLines (silent suspend) booted call × IsUnwritten call
-Saves suspend booted call Usage = ⊥
-Saves suspend booted call NoMemory = ⊥
-Saves suspend booted call (ImageFault fault) = ⊥
+Saves suspend booted call _ = ⊥
 
 -- ---- calls
 
