@@ -1,14 +1,11 @@
 -- Slices one after another.
-use Rattle.std.proofs.Common.{◌≡◌, ◌+◌, ◌≤◌, ℕ, true, List, [], ◌∷◌, ◌++◌, refl, sym, ap, ◌∙◌, arith}
-use Rattle.xk_base.specs.declared.events.Event.{Event}
+use Rattle.std.proofs.Common.{◌≡◌, ◌+◌, ◌≤◌, ℕ, List, [], ◌∷◌, ap, ◌∙◌, arith}
 use Rattle.xk_base.specs.declared.ids.ThreadId.{ThreadId}
 use Rattle.machine_model.specs.State.Machine.{Machine}
-use Rattle.machine_model.specs.State.Order.{ready_at, turn}
-use Rattle.machine_model.specs.Stepping.Step.{Recorded}
 use Rattle.machine_history.specs.History.{History, reached, behind, followed_by, history}
 use Rattle.machine_history.proofs.Histories.HistoryLemmas.{history_append, history_none}
 use Rattle.order_laws.specs.Orders.{AreReadyInSlices, after_slice, order_events, slices_in_turn, steps_of_order}
-use Rattle.order_laws.specs.Slices.{slice, slice_events, turned}
+use Rattle.order_laws.specs.Slices.{slice, slice_events}
 use Rattle.order_laws.proofs.SliceLemmas.{slice_counts, slice_plays}
 
 pub order_plays : (quantum limit : ℕ) (order : List ThreadId) (m : Machine) → AreReadyInSlices quantum order m

@@ -1,14 +1,13 @@
 -- One slice.
-use Rattle.std.proofs.Common.{◌≡◌, ◌≢◌, ◌+◌, ◌-◌, ◌≤◌, ℕ, zero, suc, Bool, true, false, List, [], ◌∷◌, ◌++◌, is_some, refl, sym, ap, ◌∙◌, arith, append-nil}
+use Rattle.std.proofs.Common.{◌≡◌, ◌≢◌, ◌+◌, ◌-◌, ◌≤◌, ℕ, zero, suc, Bool, true, false, List, [], ◌∷◌, is_some, refl, ap, ◌∙◌, arith, append-nil}
 use Rattle.std.specs.Prelude.{if◌then◌else◌}
-use Rattle.xk_base.specs.declared.events.Event.{Event}
 use Rattle.xk_base.specs.declared.events.Event.TheVariants.{Tick, Pick}
 use Rattle.xk_base.specs.declared.ids.ThreadId.{ThreadId}
 use Rattle.xk_base.specs.declared.records.Rec.{Rec}
 use Rattle.machine_model.specs.State.Machine.{Machine}
 use Rattle.machine_model.specs.State.Order.{actor, turn, ready_at}
-use Rattle.machine_model.specs.Stepping.Events.{picked, nothing}
-use Rattle.machine_model.specs.Stepping.Step.{Recorded, step}
+use Rattle.machine_model.specs.Stepping.Events.{picked}
+use Rattle.machine_model.specs.Stepping.Step.{step}
 use Rattle.machine_history.specs.History.{History, reached, behind, followed_by, play, history}
 use Rattle.machine_history.proofs.Histories.HistoryLemmas.{history_first, history_none, pick_plays, tick_steps, tick_zero}
 use Rattle.machine_history.proofs.Histories.LimitLemmas.{pick_steps, step_steps, turn_steps}

@@ -3,8 +3,9 @@ use Rattle.std.specs.Prelude.{◌≡◌, ℕ, ◌+◌, true, List, [], ◌∷◌
 use Rattle.std.specs.Bool.{⊤}
 use Rattle.xk_base.specs.declared.events.Event.{Event}
 use Rattle.xk_base.specs.declared.ids.ThreadId.{ThreadId}
+use Rattle.machine_history.specs.Interleaving.{AreReadyInTurn, steps_in_turn}
 use Rattle.machine_model.specs.State.Machine.{Machine}
-use Rattle.machine_model.specs.State.Order.{ready_at, turn}
+use Rattle.machine_model.specs.State.Order.{ready_at}
 use Rattle.machine_model.specs.Stepping.Events.{nothing}
 use Rattle.machine_model.specs.Stepping.Step.{Recorded}
 use Rattle.order_laws.specs.Slices.{slice, slice_events, turned}
@@ -35,3 +36,11 @@ slices_in_turn quantum (who ∷ later) m = record {
   machine = (slices_in_turn quantum later (after_slice quantum who m)).machine;
   records = (slice quantum who m).records ++ (slices_in_turn quantum later (after_slice quantum who m)).records;
 }
+
+-- threads that are each Ready at their turn are so at their slice of one step, and these slices in a row are their steps
+pub record AreSteps (order : List ThreadId) (m : Machine) : Type 0 where
+  pub ready : AreReadyInSlices 1 order m
+  pub same : slices_in_turn 1 order m ≡ steps_in_turn order m
+
+abbrev pub InterleavingsAreOrders : Type 0
+InterleavingsAreOrders = (order : List ThreadId) (m : Machine) → AreReadyInTurn order m → AreSteps order m

@@ -8,7 +8,7 @@ ghost use Rattle.machine_model.specs.State.Machine.{Machine};
 ghost use Rattle.machine_model.specs.State.Order.{ready_at};
 ghost use Rattle.machine_history.specs.History.{history, reached};
 ghost use Rattle.order_laws.specs.Slices.{slice, slice_events, turned};
-ghost use Rattle.order_laws.specs.Orders.{AreReadyInSlices, order_events, slices_in_turn, steps_of_order};
+ghost use Rattle.order_laws.specs.Orders.{AreReadyInSlices, InterleavingsAreOrders, order_events, slices_in_turn, steps_of_order};
 
 /// **A slice is played.** For a thread that is Ready, `pick` and a `tick` of as many steps as its slice has do exactly its slice and end
 /// the turn, where the limit allows these steps.
@@ -33,4 +33,10 @@ pub fn order_is_played()
 pub fn slice_forgets_the_turn()
     ensures { (quantum : ℕ) (who cursor : ThreadId) (m : Machine) → ready_at m who ≡ true
         → slice quantum who (record m { cursor = cursor }) ≡ slice quantum who m }
+{}
+
+/// **With a quantum of 1 each interleaving is an order.** Threads that are each Ready at their turn are so at their slice, and their slices in
+/// a row are their steps.
+pub fn interleavings_are_orders()
+    ensures { InterleavingsAreOrders }
 {}
