@@ -31,7 +31,7 @@ module _ (setup : Setup) (plan : BootPlan) (events : List ℕ) (play : Play) (ca
   starts : out.machine ≡ start plan setup.image
   starts = only_start setup out.machine has.args has.sound out.boots ∙ ap (λ (p : BootPlan). start p setup.image) (sym has.planned)
 
-  run_at : ℕ → History
+  abbrev run_at : ℕ → History
   run_at limit = run_of limit (start plan setup.image) events
 
   same_run : (limit : ℕ) → play.limit ≡ limit → run_of play.limit out.machine events ≡ run_at limit
