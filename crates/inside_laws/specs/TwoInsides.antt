@@ -45,11 +45,16 @@ RunsKeepInside =
 
 -- ---- two histories
 
--- the starts are the same but for the inside, and at each moment of the first history the group acts alike in both
+-- at each moment of the first history of one list of events the group acts alike in both
+abbrev pub ActAlong : Group → List Event → ℕ → Machine → Machine → Type 0
+ActAlong group events limit m n =
+    (i : ℕ) (moment : Moment) → slice_get (moments_of events limit m) i ≡ Some moment
+    → ActsAlike group moment.cause (state_at m (moments_of events limit m) i) (state_at n (moments_of events limit n) i)
+
+-- .. and the starts are the same but for the inside
 pub record HistoriesActAlike (group : Group) (events : List Event) (limit : ℕ) (m n : Machine) : Type 0 where
   pub start : SameButInside group m n
-  pub acts : (i : ℕ) (moment : Moment) → slice_get (moments_of events limit m) i ≡ Some moment
-      → ActsAlike group moment.cause (state_at m (moments_of events limit m) i) (state_at n (moments_of events limit n) i)
+  pub acts : ActAlong group events limit m n
 
 -- two histories have the same records, met the limit alike, and end in states that are the same but for the inside
 pub record TellTheSameOutside (group : Group) (one other : History) : Type 0 where

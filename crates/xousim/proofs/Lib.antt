@@ -1,4 +1,5 @@
 pub mod BegunLemmas
+pub mod ExchangedCallLemmas
 pub mod Headline
 pub mod Images
 pub mod Outcome

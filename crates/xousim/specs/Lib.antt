@@ -1,3 +1,4 @@
+pub mod ExchangedCalls
 pub mod Finish
 pub mod Headline
 pub mod Outcome

@@ -4,6 +4,7 @@
 
 mod commands;
 mod converted;
+mod exchanged;
 mod matched;
 mod notes;
 mod resumed;
