@@ -1,6 +1,6 @@
 -- A served return or forward is by the process of the server that holds the message.
-use Rattle.std.proofs.Common.{◌≡◌, ℕ, inl, inr, Bool, true, List, [], ◌∷◌, Option, Some, refl, sym, ap, ◌∙◌, subst}
-use Rattle.std.specs.Prelude.{◌==◌, ◌&&◌, is_none, is_some, not}
+use Rattle.std.proofs.Common.{◌≡◌, ℕ, inl, inr, Bool, true, false, List, [], ◌∷◌, Some, refl, sym, subst}
+use Rattle.std.specs.Prelude.{◌==◌, is_none, is_some, not, unwrap_or}
 use Rattle.std.specs.Option.{option_map_or}
 use Rattle.std.proofs.lemmas.Bool.{and_parts, eq-eqb, false≢true}
 use Rattle.xk_base.specs.declared.errors.XousError.TheVariants.{BadAddress, DoubleFree, InvalidSyscall, ServerNotFound, ServerQueueFull}
@@ -9,9 +9,9 @@ use Rattle.xk_base.specs.declared.ids.Pid.{Pid}
 use Rattle.xk_base.specs.declared.ids.ThreadId.{ThreadId}
 use Rattle.xk_base.specs.declared.messages.Message.{Message}
 use Rattle.xk_base.specs.Calls.CallNumbers.{forward_message}
-use Rattle.xk_base.specs.Calls.CallWords.{call_number, forward_cid, forward_token, return_address, return_size, return_token}
+use Rattle.xk_base.specs.Calls.CallWords.{call_number, forward_cid, return_address, return_size}
 use Rattle.machine_model.specs.Calling.Calls.{call}
-use Rattle.machine_model.specs.Messaging.ForwardCalls.{are_one_server, is_passable_of, passable, passed_from, passed_number, passed_to}
+use Rattle.machine_model.specs.Messaging.ForwardCalls.{are_one_server, is_passable_of, next_arrival, passable, passed_from, passed_number, passed_to}
 use Rattle.machine_model.specs.Messaging.Messages.{is_blocking_of, is_lend, is_lend_of, is_of_number}
 use Rattle.machine_model.specs.Messaging.ReturnCalls.{held_by_caller, is_its_range, named_number}
 use Rattle.machine_model.specs.Runs.LoanSpan.{IsServedCallOf}
@@ -26,7 +26,8 @@ use Rattle.machine_laws.proofs.Calling.RunRefusalLemmas.{none_holds}
 use Rattle.machine_laws.proofs.Returning.GivenBackLemmas.{found_at}
 use Rattle.machine_laws.proofs.Threading.ThreadStepLemmas.{turned_to}
 use Rattle.call_effects.specs.Deciding.{decide, rows}
-use Rattle.call_effects.specs.Verdicts.{Row}
+use Rattle.call_effects.specs.Rows.MessageRows.{passed_if}
+use Rattle.call_effects.specs.Verdicts.{Does, RefusedIf, Refuses, RetriedIf, Row, Verdict}
 use Rattle.call_effects.proofs.MeantLemmas.{calls_meant}
 use Rattle.call_effects.proofs.RowLemmas.{OfRows, ◌also◌, of_row}
 use Rattle.call_effects.proofs.ServedLemmas.{OfPlan, OfServed, of_plan}
@@ -48,6 +49,13 @@ pub of_served : (P : Change → Type 0) (o : Outcome) → OfServed P o → is_se
 of_served P (Refused error) of e = absurd (false≢true e)
 of_served P Retried of e = absurd (false≢true e)
 of_served P (Served change) of e = (change, refl, of)
+
+-- what doesn't hang on the plan is shown of any verdict
+of_any : (P : Type 0) → P → (verdict : Verdict) → OfPlan (λ plan. P) verdict
+of_any P p (Refuses error) = tt
+of_any P p (Does plan) = p
+of_any P p (RefusedIf refusals verdict) = λ none. of_any P p verdict
+of_any P p (RetriedIf retried verdict) = λ again. of_any P p verdict
 
 module _ (m : Machine) (h : Matched m) (w : List ℕ) where
   -- the message that is found
@@ -100,12 +108,14 @@ module _ (m : Machine) (h : Matched m) (w : List ℕ) where
 
   forwards : OfRows is_forward Passed rows
   forwards =
-      (λ none free. found (passed_number w) (is_passable_of (passed_number w)) numbered
+      (λ none free. of_any (HasHolder (passed_number w) m.cursor.pid m) (found (passed_number w) (is_passable_of (passed_number w)) numbered
       (none_holds (is_none (passable m (passed_number w))) DoubleFree
       ((is_none (server_at m (forward_cid w)), ServerNotFound)
       ∷ (are_one_server (passed_from m (passed_number w)) (passed_to m (forward_cid w)), InvalidSyscall)
       ∷ (is_full (server_at m (forward_cid w)), ServerQueueFull)
       ∷ []) none).0)
+      (passed_if m (passed_number w) (forward_cid w) (unwrap_or (next_arrival m (passed_number w) (forward_cid w)) (record { 0 = 0 }))
+      (passable m (passed_number w))))
       also tt
 
   forward_holder : is_forward (call_number w) ≡ true → OfServed (λ change. HasHolder (passed_number w) m.cursor.pid m) (call m w)

@@ -1,15 +1,12 @@
 -- A served send reaches its server: its message is queued there, or goes to the thread that waits.
-use Rattle.std.proofs.Common.{◌≡◌, ℕ, inl, inr, Bool, true, false, List, [], ◌∷◌, ◌++◌, Option, Some, None, refl, sym, ap, ◌∙◌, subst}
-use Rattle.std.specs.Prelude.{◌&&◌, if◌then◌else◌, is_none, nat_eq, unwrap_or}
+use Rattle.std.proofs.Common.{◌≡◌, ℕ, Bool, true, false, List, [], ◌∷◌, ◌++◌, Option, Some, sym, ap, ◌∙◌, subst}
+use Rattle.std.specs.Prelude.{◌&&◌, is_none, nat_eq, unwrap_or}
 use Rattle.std.specs.Option.{option_map}
-use Rattle.std.proofs.lemmas.Bool.{eq-eqb}
 use Rattle.xk_base.specs.declared.errors.XousError.{XousError}
 use Rattle.xk_base.specs.declared.errors.XousError.TheVariants.{BadAddress, BadAlignment, InvalidSyscall, ServerNotFound, ServerQueueFull, ShareViolation}
 use Rattle.xk_base.specs.declared.ids.Number.{Number}
 use Rattle.xk_base.specs.declared.ids.Serial.{Serial}
-use Rattle.xk_base.specs.declared.ids.ThreadId.{ThreadId}
 use Rattle.xk_base.specs.declared.ids.Vpn.{Vpn}
-use Rattle.xk_base.specs.declared.messages.Message.{Message}
 use Rattle.xk_base.specs.declared.messages.MsgKind.TheVariants.{Scalar}
 use Rattle.xk_base.specs.Calls.CallWords.{call_number, send_address, send_cid, send_length}
 use Rattle.xk_base.specs.Calls.Kinds.{is_answered}
@@ -41,7 +38,6 @@ use Rattle.call_effects.proofs.ServedLemmas.{OfPlan, OfServed, done, of_plan}
 use Rattle.span_laws.proofs.Fates.LikeLemmas.{call_like, served_like}
 use Rattle.span_laws.proofs.Fates.ServedFateLemmas.{some_of}
 use Rattle.message_laws.specs.Accepting.{Accepts}
-use Rattle.message_laws.specs.Serving.{Arrives, IsSent, ConnectsTo}
 use Rattle.message_laws.proofs.AtServers.GivenUpLemmas.{of_served, served_turned}
 use Rattle.message_laws.proofs.Following.SendLemmas.{HasServerAt, sender_servers, server_there}
 

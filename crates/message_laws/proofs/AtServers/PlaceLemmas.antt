@@ -1,13 +1,12 @@
 -- What one cause makes of where a message is: how it comes to a server, and how it goes.
-use Rattle.std.proofs.Common.{◌≡◌, ◌≢◌, ℕ, ◌⊎◌, inl, inr, Bool, true, false, List, [], ◌∷◌, ◌++◌, cond, drop, filter, map, Option, Some, None, refl, sym, ap, ◌∙◌, subst}
+use Rattle.std.proofs.Common.{◌≡◌, ◌≢◌, ℕ, ◌⊎◌, inl, inr, Bool, true, false, List, [], ◌∷◌, ◌++◌, cond, drop, filter, map, Some, refl, sym, ap, ◌∙◌, subst}
 use Rattle.std.specs.Prelude.{◌&&◌, ◌||◌, if◌then◌else◌, not}
 use Rattle.std.specs.List.{list_any}
-use Rattle.std.proofs.lemmas.Bool.{eq-eqb, eqb-true, false≢true, or_parts}
+use Rattle.std.proofs.lemmas.Bool.{eqb-true, false≢true, or_parts}
 use Rattle.std.proofs.lemmas.List.Folds.{list_any-append}
 use Rattle.std.proofs.lemmas.Option.{none-some, same_Some}
 use Rattle.xk_base.specs.declared.ids.Number.{Number}
 use Rattle.xk_base.specs.declared.ids.Pid.{Pid}
-use Rattle.xk_base.specs.declared.ids.ThreadId.{ThreadId}
 use Rattle.xk_base.specs.declared.messages.Message.{Message}
 use Rattle.xk_base.specs.Calls.Kinds.{is_answered}
 use Rattle.machine_model.specs.Ending.Closing.{senderless_from, with_senderless_from, without_queued_from}
@@ -17,7 +16,7 @@ use Rattle.machine_model.specs.State.Machine.{Machine, Server}
 use Rattle.machine_model.proofs.Matching.OneMessageLemmas.{same_or_not}
 use Rattle.message_laws.specs.AtServers.{Brings, ByDelivery, ByReturn, BySender, ByServer, EndsAt, IsAt}
 use Rattle.message_laws.specs.Following.{Holds, Keeping, Lacks, Queues, keeping, keeping_by}
-use Rattle.message_laws.specs.Serving.{Arrives, DiesIn, Ends, Forwards, Founded, FromQueue, IsReturned, ListStep, Lists, LosesSender, Queues as QueuesOne, Receives, Returns, ServerStep, Stays, Takes, told_by}
+use Rattle.message_laws.specs.Serving.{DiesIn, Ends, Forwards, Founded, FromQueue, IsReturned, ListStep, Lists, LosesSender, Queues as QueuesOne, Receives, Returns, ServerStep, Stays, Takes, told_by}
 use Rattle.message_laws.proofs.Following.EndLemmas.{left_any, senderless_any}
 use Rattle.message_laws.proofs.Following.KeepLemmas.{queued_other, received_other, returned_other, this_last}
 use Rattle.message_laws.proofs.Following.SendLemmas.{lacks_both}

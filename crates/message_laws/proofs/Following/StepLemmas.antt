@@ -358,13 +358,13 @@ nothing_leads number m next servers count a stands =
     told_leads number a 0 (record { machine = next; told = [] }) (nothing_told number next a (like_stands number m next servers count a stands))
 
 -- what the step of a thread makes of a machine
-abbrev stepped : Machine → ThreadId → Option Thread → Recorded
+abbrev pub stepped : Machine → ThreadId → Option Thread → Recorded
 stepped m who o = record {
   machine = (timed (counted (turned_to who m) o (acted_if_there (turned_to who m) o))).machine;
   records = map (record_of (m.steps + 1)) (timed (counted (turned_to who m) o (acted_if_there (turned_to who m) o))).told;
 }
 
-step_is : (m : Machine) (who : ThreadId) → actor m ≡ Some who → step m ≡ stepped m who (m.threads who)
+pub step_is : (m : Machine) (who : ThreadId) → actor m ≡ Some who → step m ≡ stepped m who (m.threads who)
 unfolding step step_by
 step_is m who acts = ap (λ a. step_by_if a m) acts
 

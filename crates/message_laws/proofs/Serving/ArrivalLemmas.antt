@@ -1,5 +1,5 @@
 -- Who waits for an answer, what arrives at a server, and what a death leaves of it.
-use Rattle.std.proofs.Common.{◌≡◌, ℕ, ◌<◌, inl, inr, Bool, true, false, [], get_or, length, Option, Some, None, refl, sym, ap, ◌∙◌}
+use Rattle.std.proofs.Common.{◌≡◌, ℕ, ◌<◌, inl, inr, Bool, true, false, get_or, length, Option, Some, None, refl, sym, ap, ◌∙◌}
 use Rattle.std.specs.Prelude.{if◌then◌else◌}
 use Rattle.std.specs.Option.{option_map, option_map_or}
 use Rattle.std.proofs.lemmas.Bool.{and_from, eq-eqb, eqb-true, false≢true}
@@ -93,7 +93,8 @@ nothing_queued m h serial who e =
     let at = receiver_receives m serial who e in
     h.body.receivers who at.0 serial at.1 at.2
 
-receives_there : (m : Machine) (serial : Serial) (who : ThreadId) → receiver m serial ≡ Some who → receiving_at m serial who ≡ true
+-- who gets a message at once waits at that server
+pub receives_there : (m : Machine) (serial : Serial) (who : ThreadId) → receiver m serial ≡ Some who → receiving_at m serial who ≡ true
 receives_there m serial who e =
     let thread = receiver_receives m serial who e in
     ap (λ o. option_map_or (λ (t : Thread). is_receiving serial t.state) o false) thread.1

@@ -29,7 +29,7 @@ use Rattle.machine_laws.proofs.Threading.ThreadPutLemmas.{alike}
 use Rattle.machine_laws.proofs.Threading.ThreadStepLemmas.{turned_to}
 use Rattle.message_laws.specs.Answered.{IsAnswerTo}
 use Rattle.message_laws.specs.Following.{Lacks, keeping}
-use Rattle.message_laws.specs.Serving.{Arrives, AtOnce, Ends, Forwards, Founded, FromQueue, IsDelivered, IsDestroyed, IsForwarded, IsForwardedTo, IsMeant, IsReceiver, IsReturned, IsSent, IsServedBy, ListStep, Lists, LosesSender, Queues, Reaches, Receives, Returns, ServerStep, Stays, Takes}
+use Rattle.message_laws.specs.Serving.{Arrives, AtOnce, Ends, Forwards, Founded, FromQueue, IsDestroyed, IsForwarded, IsForwardedTo, IsMeant, IsReceiver, IsReturned, IsSent, IsServedBy, ListStep, Lists, LosesSender, Queues, Reaches, Receives, Returns, ServerStep, Stays, Takes}
 
 -- ---- servers
 
@@ -72,7 +72,7 @@ module _ (cause : Cause) (m : Machine) (cursor : ThreadId) (acts : actor m ≡ S
   unfolding with_sid
   named_like sid serial e = e
 
-  served_like : (pid : Pid) (words : List ℕ) → IsServedBy pid words cause like → IsServedBy pid words cause m
+  abbrev served_like : (pid : Pid) (words : List ℕ) → IsServedBy pid words cause like → IsServedBy pid words cause m
   served_like pid words s =
       let same : cursor ≡ s.who = same_Some cursor s.who (sym turned ∙ s.by_who) in
       record {
@@ -110,7 +110,7 @@ module _ (cause : Cause) (m : Machine) (cursor : ThreadId) (acts : actor m ≡ S
     names = named_like (named_sid r.words) (serial_of n) r.names;
   }
 
-  passed_like : (n : ℕ) (x : Message) → IsForwardedTo n x cause like → IsForwardedTo n x cause m
+  abbrev passed_like : (n : ℕ) (x : Message) → IsForwardedTo n x cause like → IsForwardedTo n x cause m
   passed_like n x r = record {
     from = r.from;
     server = r.server;

@@ -78,7 +78,7 @@ module _ (cause : Cause) (by_step : cause ≡ ByStep) (m : Machine) (h : Matched
   Goes next n = ServerStep n cause m next (λ pid. None ≡ Some pid)
 
   -- the call, as one of this process
-  served_by : (pid : Pid) → m.cursor.pid ≡ pid → IsServedBy pid w cause m
+  abbrev served_by : (pid : Pid) → m.cursor.pid ≡ pid → IsServedBy pid w cause m
   served_by pid own = record { who = m.cursor; step = by_step; by_who = acts; of_process = own; call = calls; served = went }
 
   abbrev OfCall : ℕ → Row → Type 0
@@ -414,8 +414,8 @@ module _ (cause : Cause) (by_step : cause ≡ ByStep) (m : Machine) (h : Matched
       here : n ≡ to.0 → next.servers n ≡ Some arrived → Goes next n
       here same e =
           Lists target arrived (ap m.servers same ∙ target_there) e
-          (subst (λ k. ListStep k cause m next _ target arrived) (sym same)
-          (arrival_step cause m h to (with_first first x) (IsForwarded passes) next _ target target_there))
+          (subst (λ k. ListStep k cause m next (λ pid. None ≡ Some pid) target arrived) (sym same)
+          (arrival_step cause m h to (with_first first x) (IsForwarded passes) next (λ pid. None ≡ Some pid) target target_there))
 
       -- it is at the other server then
       at_target : (keeping x.number (next.servers to.0)) ≢ Lacks
@@ -441,7 +441,7 @@ module _ (cause : Cause) (by_step : cause ≡ ByStep) (m : Machine) (h : Matched
               Lists at.server (without_held x.number at.server) (ap m.servers (eqb-true n at.serial.0 r) ∙ at.there)
               (now false q ∙ (ap (λ c. if c then option_map (without_held x.number) (m.servers at.serial.0) else m.servers n) r
               ∙ ap (option_map (without_held x.number)) at.there))
-              (Forwards to.0 (with_first first x) passes (sym (eqb-true n at.serial.0 r)) at_target refl)
+              (Forwards to.0 (with_first first x) (passed_to_it e x at to apart leads first) (sym (eqb-true n at.serial.0 r)) at_target refl)
           by false r = Stays (now false q ∙ ap (λ c. if c then option_map (without_held x.number) (m.servers at.serial.0) else m.servers n) r)
 
   by_message : call_number w ≡ forward_message → (o : Option Message) → passable m (passed_number w) ≡ o → is_none o ≡ false → is_none (server_at m (forward_cid w)) ≡ false
@@ -464,17 +464,17 @@ module _ (cause : Cause) (by_step : cause ≡ ByStep) (m : Machine) (h : Matched
       to_there : m.servers (unwrap_or (passed_to m (forward_cid w)) (serial_of 0)).0 ≡ Some live_at.server
       to_there = ap (λ (o : Option Serial). m.servers (unwrap_or o (serial_of 0)).0) live_at.is ∙ live_at.there
 
-      passes : IsForwardedTo (unwrap_or (passed_to m (forward_cid w)) (serial_of 0)).0 (with_first first x) cause m
-      passes = passed_to_it e x at (unwrap_or (passed_to m (forward_cid w)) (serial_of 0)) distinct leads first
-
-      leads : passed_to m (forward_cid w) ≡ Some (unwrap_or (passed_to m (forward_cid w)) (serial_of 0))
-      leads = live_at.is ∙ ap (λ o. Some (unwrap_or o (serial_of 0))) (sym live_at.is)
-
       distinct : (unwrap_or (passed_to m (forward_cid w)) (serial_of 0)).0 ≢ at.serial.0
       distinct same =
           false≢true (sym apart
           ∙ ((λ i. are_one_server (at.is i) (live_at.is i))
           ∙ eq-eqb at.serial.0 live_at.serial.0 (sym same ∙ ap (λ (o : Option Serial). (unwrap_or o (serial_of 0)).0) live_at.is)))
+
+      leads : passed_to m (forward_cid w) ≡ Some (unwrap_or (passed_to m (forward_cid w)) (serial_of 0))
+      leads = live_at.is ∙ ap (λ o. Some (unwrap_or o (serial_of 0))) (sym live_at.is)
+
+      passes : IsForwardedTo (unwrap_or (passed_to m (forward_cid w)) (serial_of 0)).0 (with_first first x) cause m
+      passes = passed_to_it e x at (unwrap_or (passed_to m (forward_cid w)) (serial_of 0)) distinct leads first
 
       servers : (change_server (unwrap_or (passed_to m (forward_cid w)) (serial_of 0)) (at_server (arriving (receiver m (unwrap_or (passed_to m (forward_cid w)) (serial_of 0))) (with_first first x)))
           (change_server (unwrap_or (passed_from m (passed_number w)) (serial_of 0)) (without_held x.number) m)).servers

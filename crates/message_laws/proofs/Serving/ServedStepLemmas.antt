@@ -34,7 +34,7 @@ use Rattle.machine_model.specs.Stepping.Acts.{call_by, executes, is_call_served,
 use Rattle.machine_model.specs.Stepping.Events.{killed, killed_if, picked, raised, raised_if}
 use Rattle.machine_model.specs.Stepping.Interrupts.{cursor_after, delivered, delivered_lowest, handler_started, is_free_for_interrupt, lowest_pending, pended}
 use Rattle.machine_model.specs.Stepping.Reservations.{unreserved}
-use Rattle.machine_model.specs.Stepping.Step.{Recorded, acted, acted_if_there, after, console_told, counted, ends_handler, executed, performed, record_of, step, step_by, step_by_if}
+use Rattle.machine_model.specs.Stepping.Step.{Recorded, acted, after, console_told, counted, ends_handler, executed, performed, record_of, step}
 use Rattle.machine_model.specs.Stepping.Timer.{is_due, stands_after_irq, timed, timed_if, timer_change, with_irq, with_irq_if}
 use Rattle.machine_model.proofs.Runs.KeptLemmas.{matched_at}
 use Rattle.machine_model.proofs.Runs.TimerLemmas.{timed_raised}
@@ -45,7 +45,7 @@ use Rattle.call_effects.proofs.ServedLemmas.{OfServed}
 use Rattle.record_laws.proofs.Answering.DueLemmas.{timed_holds}
 use Rattle.message_laws.specs.Answered.{IsSenderAnswered, SendersAreAnswered}
 use Rattle.message_laws.specs.Serving.{AllAreServed, DiesIn, IsDelivery, ServerStep, Stays}
-use Rattle.message_laws.proofs.Following.StepLemmas.{numbered}
+use Rattle.message_laws.proofs.Following.StepLemmas.{numbered, step_is, stepped}
 use Rattle.message_laws.proofs.Serving.AtServerLemmas.{AreMeant, IsTold, Serves, answer_like, both_meant, call_turned, meant_like, none_meant, refused_meant, step_like, step_to}
 use Rattle.message_laws.proofs.Serving.ArrivalLemmas.{death_serves}
 use Rattle.message_laws.proofs.Serving.RowLemmas.{not_cursor, served_serves}
@@ -61,7 +61,6 @@ pub record Does (cause : Cause) (m : Machine) (done : Told) : Type 0 where
   pub told : All (IsRecordTold cause m) done.told
 
 module _ (cause : Cause) where
-
   -- a record that is no reply
   first_does : (m : Machine) (what : What) (done : Told) → IsRecordTold cause m what → Does cause m done → Does cause m (after what done)
   first_does m what done is does = record {
@@ -203,7 +202,7 @@ module _ (cause : Cause) where
     told = told;
   }
     where
-      of : (what : What) → IsRecordTold (turned_to who m) what → IsRecordTold cause m what
+      of : (what : What) → IsRecordTold cause (turned_to who m) what → IsRecordTold cause m what
       of (Call other words) d = (tt, tt)
       of (Reply other words) d = (meant_like cause m who acts turned other words d.0, λ number waits. answer_like cause m who acts turned number words (d.1 number waits))
       of (Retry other) d = (tt, tt)
@@ -225,10 +224,7 @@ module _ (cause : Cause) where
       where
         go : (b : Bool) → Does cause m (record { machine = next; told = if b then Byte who (value % 256) ∷ [] else [] })
         go false = none_does m next same
-        go true = record {
-          servers = (none_does m next same).servers;
-          told = All-cons (IsRecordTold cause m) (Byte who (value % 256)) [] (tt, tt) (All-nil (IsRecordTold cause m));
-        }
+        go true = first_does m (Byte who (value % 256)) (record { machine = next; told = [] }) (tt, tt) (none_does m next same)
 
     turned_acts : actor n ≡ Some who
     unfolding actor
@@ -306,12 +302,13 @@ module _ (cause : Cause) where
     where
       with_one : (d : Delivery) (told : List What) → Contains told what → Contains (with_irq d told) what
       with_one d [] at = absurd (let low : at.0 < 0 = at.1 in omega arith)
-      with_one d (first ∷ told) at = by (stands_after_irq d.pid first) (Contains-append_cases (first ∷ []) told what at)
+      with_one d (first ∷ told) at = by (λ later. with_one d told later) (stands_after_irq d.pid first) (Contains-append_cases (first ∷ []) told what at)
         where
-          by : (b : Bool) → Contains (first ∷ []) what ⊎ Contains told what → Contains (if b then Irq d.pid d.number ∷ first ∷ told else first ∷ with_irq d told) what
-          by true either = Contains-append_right (Irq d.pid d.number ∷ []) (first ∷ told) what at
-          by false (inl here) = Contains-append_left (first ∷ []) (with_irq d told) what here
-          by false (inr later) = Contains-append_right (first ∷ []) (with_irq d told) what (with_one d told later)
+          by : (Contains told what → Contains (with_irq d told) what) → (b : Bool) → Contains (first ∷ []) what ⊎ Contains told what
+              → Contains (if b then Irq d.pid d.number ∷ first ∷ told else first ∷ with_irq d told) what
+          by rest true either = Contains-append_right (Irq d.pid d.number ∷ []) (first ∷ told) what at
+          by rest false (inl here) = Contains-append_left (first ∷ []) (with_irq d told) what here
+          by rest false (inr later) = Contains-append_right (first ∷ []) (with_irq d told) what (rest later)
 
       by_delivery : (o : Option Delivery) → Contains (with_irq_if o done.told) what
       by_delivery None = there
@@ -351,16 +348,6 @@ module _ (cause : Cause) where
     servers = λ k. step_to cause m done.machine (counted n (Some t) done).machine refl (DiesIn done.told) (DiesIn done.told) (λ pid dies. dies) k (does.servers k);
     told = does.told;
   }
-
-abbrev stepped : Machine → ThreadId → Option Thread → Recorded
-stepped m who o = record {
-  machine = (timed (counted (turned_to who m) o (acted_if_there (turned_to who m) o))).machine;
-  records = map (record_of (m.steps + 1)) (timed (counted (turned_to who m) o (acted_if_there (turned_to who m) o))).told;
-}
-
-step_is : (m : Machine) (who : ThreadId) → actor m ≡ Some who → step m ≡ stepped m who (m.threads who)
-unfolding step step_by
-step_is m who acts = ap (λ a. step_by_if a m) acts
 
 step_so : (m : Machine) → Matched m → DoesSo ByStep m (step m)
 step_so m h = go (actor m) refl
