@@ -47,13 +47,14 @@ HasItAt number n start moments j = IsAtSince number n start moments j ⊎ Brings
 
 -- ---- deliveries, returns and forwards
 
--- a server of the thread's process has it in moment j
+-- the server that delivers it to the thread in moment j has it
 pub record IsGivenAt (number : Number) (who : ThreadId) (start : Machine) (moments : List Moment) (j : ℕ) : Type 0 where
-  pub n : ℕ
-  pub server : Server
-  pub there : (state_at start moments j).servers n ≡ Some server
-  pub own : server.pid ≡ who.pid
-  pub has : HasItAt number n start moments j
+  pub moment : Moment
+  pub there : slice_get moments j ≡ Some moment
+  pub message : Message
+  pub numbered : message.number ≡ number
+  pub given : IsDelivered who message moment.cause (state_at start moments j)
+  pub has : HasItAt number given.n start moments j
 
 -- the call is a return or a forward of the number
 abbrev pub GivesUp : Number → List ℕ → Type 0

@@ -23,8 +23,8 @@ pub fn servers_do_one_thing()
 
 /// **Each message has one server.** In a run from a matched state a message that is queued or held at a server was there from the start
 /// on, or a moment sent or forwarded it there, and it was there ever since, and at no other server. A reply with the message is to a
-/// thread of the process of the server that has it, or that it is sent to in that moment. Who returns or forwards it is of the process of
-/// the server that holds it.
+/// thread that receives at the server that has it, or gets it in that moment, and is of the server's process. Who returns or forwards it
+/// is of the process of the server that holds it.
 pub fn messages_have_one_server()
     ensures runs { (start : Machine) (moments : List Moment) → Matched start → IsRun start moments → HaveOneServer start moments }
     ensures histories { (events : List Event) (limit : ℕ) (start : Machine) → Matched start

@@ -25,7 +25,6 @@ use Rattle.machine_model.specs.State.Changes.{Change, Served, call_settled}
 use Rattle.machine_model.specs.State.Connections.{own_connections}
 use Rattle.machine_model.specs.State.Machine.{Machine, Server}
 use Rattle.machine_model.specs.State.Servers.{change_server, server_at}
-use Rattle.machine_model.specs.Stepping.Step.{step}
 use Rattle.machine_laws.proofs.Calling.RunRefusalLemmas.{none_holds}
 use Rattle.machine_laws.proofs.Threading.ThreadStepLemmas.{turned_to}
 use Rattle.call_effects.specs.Deciding.{decide, rows}

@@ -95,7 +95,14 @@ module _ (start : Machine) (moments : List Moment) (h : Matched start) (run : Is
       go (reply_meant (now j) reply.moment.cause (every_run_keeps start moments h run j) reply.place reply.record_there reply.who words reply.told reply.is)
     where
       by_delivery : (x : Message) → is_of_number number x ≡ true → (d : IsDelivered reply.who x reply.moment.cause (now j)) → IsGivenAt number reply.who start moments j
-      by_delivery x named d = record { n = d.n; server = d.server; there = d.there; own = d.own; has = by d.reaches }
+      by_delivery x named d = record {
+        moment = reply.moment;
+        there = reply.there;
+        message = x;
+        numbered = number_of number x named;
+        given = d;
+        has = by d.reaches;
+      }
         where
           by : Reaches d.n d.server reply.who x reply.moment.cause (now j) → HasItAt number d.n start moments j
           by (FromQueue first r) =
