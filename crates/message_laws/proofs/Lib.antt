@@ -1,3 +1,4 @@
 pub mod Accepting
+pub mod AtServers
 pub mod Following
 pub mod Serving

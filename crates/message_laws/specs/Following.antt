@@ -130,26 +130,26 @@ abbrev pub moves : Number → What → List What → Bool
 moves number what later = is_delivery_of number what || (is_forward_of number what later || is_return_of number what later)
 
 -- A record, with those behind it, leads the message of the number from the first standing to the second.
-pub data Says (number : Number) : What → List What → Standing → Standing → Type 0 where
+pub data Leads (number : Number) : What → List What → Standing → Standing → Type 0 where
   -- a send is accepted with the number
-  Accepted : (what : What) (later : List What) → is_send_in what ≡ true → Says number what later Unsent Queued
+  Accepted : (what : What) (later : List What) → is_send_in what ≡ true → Leads number what later Unsent Queued
   -- a queued message is delivered
   Delivered : (who : ThreadId) (words : List ℕ) (later : List What) → is_message_of number words ≡ true
-      → Says number (Reply who words) later Queued (left_by words)
+      → Leads number (Reply who words) later Queued (left_by words)
   -- a held one is forwarded: it is queued at another server
-  Forwarded : (what : What) (later : List What) → is_forward_of number what later ≡ true → Says number what later Held Queued
+  Forwarded : (what : What) (later : List What) → is_forward_of number what later ≡ true → Leads number what later Held Queued
   -- a held one is returned
-  Returned : (what : What) (later : List What) → is_return_of number what later ≡ true → Says number what later Held Over
+  Returned : (what : What) (later : List What) → is_return_of number what later ≡ true → Leads number what later Held Over
   -- a server or a process ends, and the message with it
-  LostQueued : (what : What) (later : List What) → is_end_in what later ≡ true → Says number what later Queued Over
-  LostHeld : (what : What) (later : List What) → is_end_in what later ≡ true → Says number what later Held Over
+  LostQueued : (what : What) (later : List What) → is_end_in what later ≡ true → Leads number what later Queued Over
+  LostHeld : (what : What) (later : List What) → is_end_in what later ≡ true → Leads number what later Held Over
   -- any other record leaves it
-  Stays : (what : What) (later : List What) (a : Standing) → moves number what later ≡ false → Says number what later a a
+  Stays : (what : What) (later : List What) (a : Standing) → moves number what later ≡ false → Leads number what later a a
 
 -- .. and several in order
-unfoldable pub SayInTurn : Number → List What → Standing → Standing → Type 0
-SayInTurn number [] a b = a ≡ b
-SayInTurn number (what ∷ told) a b = (c : Standing) × Says number what told a c × SayInTurn number told c b
+unfoldable pub LeadInTurn : Number → List What → Standing → Standing → Type 0
+LeadInTurn number [] a b = a ≡ b
+LeadInTurn number (what ∷ told) a b = (c : Standing) × Leads number what told a c × LeadInTurn number told c b
 
 -- ---- the law
 
@@ -157,4 +157,4 @@ SayInTurn number (what ∷ told) a b = (c : Standing) × Says number what told a
 abbrev pub MessagesFollow : Machine → List Moment → Type 0
 MessagesFollow start moments =
     (number : Number) (a b : Standing) → Stands number start a → Stands number (state_at start moments (length moments)) b
-    → SayInTurn number (map (λ (rec : Rec). rec.what) (records_of start moments)) a b
+    → LeadInTurn number (map (λ (rec : Rec). rec.what) (records_of start moments)) a b

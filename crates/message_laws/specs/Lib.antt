@@ -1,5 +1,6 @@
 pub mod Accepting
 pub mod Answered
+pub mod AtServers
 pub mod Contents
 pub mod DeliveredOnce
 pub mod Following

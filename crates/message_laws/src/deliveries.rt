@@ -7,6 +7,7 @@ ghost use Rattle.machine_history.specs.HistoryMoments.{moments_of};
 ghost use Rattle.machine_model.specs.Runs.Matched.{Matched};
 ghost use Rattle.machine_model.specs.Runs.Moments.{IsRun, Moment};
 ghost use Rattle.machine_model.specs.State.Machine.{Machine};
+ghost use Rattle.message_laws.specs.AtServers.{EndsAtItsServer};
 ghost use Rattle.message_laws.specs.DeliveredOnce.{DeliveredOnce};
 ghost use Rattle.message_laws.specs.Following.{MessagesFollow};
 ghost use Rattle.message_laws.specs.NothingLost.{NothingIsLost, StandsOnce};
@@ -31,10 +32,16 @@ pub fn messages_are_delivered_once()
 
 /// **Nothing is lost.** In each matched state each message stands in exactly one way: its number isn't given yet, it is queued, it is held,
 /// or it is over. One that is over in the end, and wasn't at the start, was returned, was delivered and has no answer, or was forgotten
-/// with a server or a process whose end stands in the records.
+/// with a server or a process whose end stands in the records. Each is at a server in the end, since it was sent or forwarded there, or
+/// was over at the start, or ended at the server that had it: a thread of that server's process returned it or received it and it has no
+/// answer, the server was destroyed by such a thread or its process died, or the process died whose thread waited for the answer to
+/// it, and it was queued.
 pub fn nothing_is_lost()
     ensures stands { (m : Machine) (number : Number) → Matched m → StandsOnce number m }
     ensures runs { (start : Machine) (moments : List Moment) → Matched start → IsRun start moments → NothingIsLost start moments }
     ensures histories { (events : List Event) (limit : ℕ) (start : Machine) → Matched start
         → NothingIsLost start (moments_of events limit start) }
+    ensures own_runs { (start : Machine) (moments : List Moment) → Matched start → IsRun start moments → EndsAtItsServer start moments }
+    ensures own_histories { (events : List Event) (limit : ℕ) (start : Machine) → Matched start
+        → EndsAtItsServer start (moments_of events limit start) }
 {}

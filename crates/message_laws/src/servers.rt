@@ -7,16 +7,28 @@ ghost use Rattle.machine_model.specs.Runs.Matched.{Matched};
 ghost use Rattle.machine_model.specs.Runs.Moments.{IsRun, Moment};
 ghost use Rattle.machine_model.specs.State.Machine.{Machine};
 ghost use Rattle.message_laws.specs.Answered.{SendersAreAnswered};
+ghost use Rattle.message_laws.specs.AtServers.{HaveOneServer};
 ghost use Rattle.message_laws.specs.Contents.{DeliveredAsSent};
 ghost use Rattle.message_laws.specs.Order.{OrderKept};
 ghost use Rattle.message_laws.specs.Serving.{AllAreServed};
 
 /// **Each server does one thing at a time.** In each step, event and end of a turn from a matched state a server stays as it is, is
-/// founded without a message, ends, or does one of these: a message that is sent or forwarded now is its newest queued, or is received at
-/// once where none is queued; its oldest queued message is received; a held one goes; or it loses what a process that dies has queued.
-/// Each reply that has the words of a message is of one that is received so.
+/// founded without a message, ends with its process or by a call of it, or does one of these: a message that is sent to it or forwarded
+/// to it now is its newest queued, or is received at once where none is queued; a thread of its process receives its oldest queued
+/// message; one returns a held message, or forwards it to another server, which has it then; or it loses what a process that dies has
+/// queued. Each reply that has the words of a message is of one that is received so, to the thread that receives it.
 pub fn servers_do_one_thing()
     ensures { AllAreServed }
+{}
+
+/// **Each message has one server.** In a run from a matched state a message that is queued or held at a server was there from the start
+/// on, or a moment sent or forwarded it there, and it was there ever since, and at no other server. A reply with the message is to a
+/// thread that receives at the server that has it, or gets it in that moment, and is of the server's process. Who returns or forwards it
+/// is of the process of the server that holds it.
+pub fn messages_have_one_server()
+    ensures runs { (start : Machine) (moments : List Moment) → Matched start → IsRun start moments → HaveOneServer start moments }
+    ensures histories { (events : List Event) (limit : ℕ) (start : Machine) → Matched start
+        → HaveOneServer start (moments_of events limit start) }
 {}
 
 /// **A message is delivered as it was sent.** In a run from a matched state each reply with a message whose number a moment of the run

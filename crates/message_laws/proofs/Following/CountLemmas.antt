@@ -20,7 +20,7 @@ use Rattle.machine_model.specs.State.Machine.{Machine}
 use Rattle.machine_model.proofs.Matching.CountLemmas.{one_if}
 use Rattle.machine_laws.proofs.Stepping.EveryStepLemmas.{every_cause_keeps}
 use Rattle.message_laws.specs.DeliveredOnce.{AreDeliveriesOnce, DeliveredOnce, HasForward, IsSilent, deliveries_in, due, forwards_in, in_hand, returns_in}
-use Rattle.message_laws.specs.Following.{Accepted, Delivered, Forwarded, Held, LostHeld, LostQueued, Over, Queued, Returned, Says, SayInTurn, Standing, Stays, Unsent, is_delivery_of, is_end_in, is_forward_of, is_last_delivery_of, is_message_of, is_return_call, is_return_of, is_send_in, is_served_by, left_by, moves}
+use Rattle.message_laws.specs.Following.{Accepted, Delivered, Forwarded, Held, LostHeld, LostQueued, Over, Queued, Returned, Leads, LeadInTurn, Standing, Stays, Unsent, is_delivery_of, is_end_in, is_forward_of, is_last_delivery_of, is_message_of, is_return_call, is_return_of, is_send_in, is_served_by, left_by, moves}
 use Rattle.message_laws.proofs.Following.StandLemmas.{some_standing}
 use Rattle.message_laws.proofs.Following.StepLemmas.{run_leads}
 
@@ -161,7 +161,7 @@ module _ (number : Number) where
       go false = by_counts (Reply who words) later Queued Over true false false (record { delivery = e; forward = refl; returned = refl })
           (omega arith) (omega arith) (omega arith)
 
-  says_counts : (what : What) (later : List What) (a b : Standing) → Says number what later a b → IsCounted what later a b
+  says_counts : (what : What) (later : List What) (a b : Standing) → Leads number what later a b → IsCounted what later a b
   says_counts what later _ _ (Accepted _ _ e) = by_counts what later Unsent Queued false false false (send_only what later e) (omega arith) (omega arith) (omega arith)
   says_counts _ later _ _ (Delivered who words _ e) = delivered_counts who words later e
   says_counts what later _ _ (Forwarded _ _ e) = by_counts what later Held Queued false true false (forward_only what later e) (omega arith) (omega arith) (omega arith)
@@ -177,8 +177,8 @@ module _ (number : Number) where
     hands : (forwards_in number told + returns_in number told) + in_hand b ≤ in_hand a + deliveries_in number told
     returns : returns_in number told + lives b ≤ lives a
 
-  all_counted : (told : List What) (a b : Standing) → SayInTurn number told a b → AreCounted told a b
-  unfolding SayInTurn deliveries_in forwards_in returns_in
+  all_counted : (told : List What) (a b : Standing) → LeadInTurn number told a b → AreCounted told a b
+  unfolding LeadInTurn deliveries_in forwards_in returns_in
   all_counted [] a b says =
       subst (AreCounted [] a) says (record { deliveries = omega arith; hands = omega arith; returns = omega arith })
   all_counted (what ∷ told) a b says =
@@ -202,8 +202,8 @@ module _ (number : Number) where
   -- ---- order
 
   -- the records behind some others lead from a standing of their own
-  front_off : (before rest : List What) (a b : Standing) → SayInTurn number (before ++ rest) a b → (c : Standing) × SayInTurn number rest c b
-  unfolding SayInTurn
+  front_off : (before rest : List What) (a b : Standing) → LeadInTurn number (before ++ rest) a b → (c : Standing) × LeadInTurn number rest c b
+  unfolding LeadInTurn
   front_off [] rest a b says = (a, says)
   front_off (what ∷ before) rest a b says = front_off before rest says.0 b says.2
 
@@ -221,7 +221,7 @@ module _ (number : Number) where
       go true = refl
       go false = refl
 
-  delivery_leaves : (what : What) (later : List What) (a b : Standing) → Says number what later a b → is_delivery_of number what ≡ true → is_past b ≡ true
+  delivery_leaves : (what : What) (later : List What) (a b : Standing) → Leads number what later a b → is_delivery_of number what ≡ true → is_past b ≡ true
   delivery_leaves what later _ _ (Accepted _ _ e) d = absurd (false≢true (sym (send_only what later e).delivery ∙ d))
   delivery_leaves _ later _ _ (Delivered who words _ e) d = past_by words
   delivery_leaves what later _ _ (Forwarded _ _ e) d = absurd (false≢true (sym (forward_only what later e).delivery ∙ d))
@@ -230,7 +230,7 @@ module _ (number : Number) where
   delivery_leaves what later _ _ (LostHeld _ _ e) d = refl
   delivery_leaves what later _ _ (Stays _ _ a e) d = absurd (false≢true (sym (still_only what later e).delivery ∙ d))
 
-  delivery_finds : (what : What) (later : List What) (a b : Standing) → Says number what later a b → is_delivery_of number what ≡ true → is_past a ≡ false
+  delivery_finds : (what : What) (later : List What) (a b : Standing) → Leads number what later a b → is_delivery_of number what ≡ true → is_past a ≡ false
   delivery_finds what later _ _ (Accepted _ _ e) d = refl
   delivery_finds _ later _ _ (Delivered who words _ e) d = refl
   delivery_finds what later _ _ (Forwarded _ _ e) d = absurd (false≢true (sym (forward_only what later e).delivery ∙ d))
@@ -240,7 +240,7 @@ module _ (number : Number) where
   delivery_finds what later _ _ (Stays _ _ a e) d = absurd (false≢true (sym (still_only what later e).delivery ∙ d))
 
   -- a record leaves the past behind only as a forward
-  past_left : (what : What) (later : List What) (a b : Standing) → Says number what later a b → is_past a ≡ true
+  past_left : (what : What) (later : List What) (a b : Standing) → Leads number what later a b → is_past a ≡ true
       → (is_forward_of number what later ≡ true) ⊎ (is_past b ≡ true)
   past_left what later _ _ (Accepted _ _ e) p = absurd (false≢true p)
   past_left _ later _ _ (Delivered who words _ e) p = absurd (false≢true p)
@@ -260,8 +260,8 @@ module _ (number : Number) where
   }
 
   needs_forward : (between later : List What) (two : What) (a b : Standing) → is_past a ≡ true → is_delivery_of number two ≡ true
-      → SayInTurn number (between ++ (two ∷ later)) a b → HasForward number between (two ∷ later)
-  unfolding SayInTurn
+      → LeadInTurn number (between ++ (two ∷ later)) a b → HasForward number between (two ∷ later)
+  unfolding LeadInTurn
   needs_forward [] later two a b past d says = absurd (false≢true (sym (delivery_finds two later a says.0 says.1 d) ∙ past))
   needs_forward (what ∷ between) later two a b past d says =
       go (λ p. needs_forward between later two says.0 b p d says.2) (past_left what (between ++ (two ∷ later)) a says.0 says.1 past)
@@ -272,7 +272,7 @@ module _ (number : Number) where
       go rest (inr p) = one_more what between (two ∷ later) (rest p)
 
   -- what is over stays so
-  over_stays : (what : What) (later : List What) (a b : Standing) → Says number what later a b → a ≡ Over → (moves number what later ≡ false) × (b ≡ Over)
+  over_stays : (what : What) (later : List What) (a b : Standing) → Leads number what later a b → a ≡ Over → (moves number what later ≡ false) × (b ≡ Over)
   over_stays what later _ _ (Accepted _ _ e) p = absurd (let q : Unsent ≡ Over = p in cc)
   over_stays _ later _ _ (Delivered who words _ e) p = absurd (let q : Queued ≡ Over = p in cc)
   over_stays what later _ _ (Forwarded _ _ e) p = absurd (let q : Held ≡ Over = p in cc)
@@ -281,15 +281,15 @@ module _ (number : Number) where
   over_stays what later _ _ (LostHeld _ _ e) p = absurd (let q : Held ≡ Over = p in cc)
   over_stays what later _ _ (Stays _ _ a e) p = (e, p)
 
-  pub over_silent : (told : List What) (a b : Standing) → a ≡ Over → SayInTurn number told a b → IsSilent number told × (b ≡ Over)
-  unfolding SayInTurn IsSilent
+  pub over_silent : (told : List What) (a b : Standing) → a ≡ Over → LeadInTurn number told a b → IsSilent number told × (b ≡ Over)
+  unfolding LeadInTurn IsSilent
   over_silent [] a b p says = (tt, sym says ∙ p)
   over_silent (what ∷ told) a b p says =
       let here = over_stays what told a says.0 says.1 p in
       let rest = over_silent told says.0 b here.1 says.2 in
       ((here.0, rest.0), rest.1)
 
-  return_ends : (what : What) (later : List What) (a b : Standing) → Says number what later a b → is_return_of number what later ≡ true → b ≡ Over
+  return_ends : (what : What) (later : List What) (a b : Standing) → Leads number what later a b → is_return_of number what later ≡ true → b ≡ Over
   return_ends what later _ _ (Accepted _ _ e) r = absurd (false≢true (sym (send_only what later e).returned ∙ r))
   return_ends _ later _ _ (Delivered who words _ e) r = absurd (false≢true r)
   return_ends what later _ _ (Forwarded _ _ e) r = absurd (false≢true (sym (forward_only what later e).returned ∙ r))
@@ -298,11 +298,11 @@ module _ (number : Number) where
   return_ends what later _ _ (LostHeld _ _ e) r = refl
   return_ends what later _ _ (Stays _ _ a e) r = absurd (false≢true (sym (still_only what later e).returned ∙ r))
 
-  last_delivery_ends : (what : What) (later : List What) (a b : Standing) → Says number what later a b → is_last_delivery_of number what ≡ true → b ≡ Over
+  last_delivery_ends : (what : What) (later : List What) (a b : Standing) → Leads number what later a b → is_last_delivery_of number what ≡ true → b ≡ Over
   last_delivery_ends (Call who words) later a b says l = absurd (false≢true l)
   last_delivery_ends (Reply who words) later a b says l = go a b says (and_parts (is_message_of number words) (not (is_waiting_kind (slice_index words 2))) l)
     where
-      go : (a b : Standing) → Says number (Reply who words) later a b
+      go : (a b : Standing) → Leads number (Reply who words) later a b
           → (is_message_of number words ≡ true) × (not (is_waiting_kind (slice_index words 2)) ≡ true) → b ≡ Over
       go _ _ (Accepted _ _ e) parts = absurd (false≢true e)
       go _ _ (Delivered _ _ _ e) parts = by (is_waiting_kind (slice_index words 2)) parts.1
@@ -322,7 +322,7 @@ module _ (number : Number) where
   last_delivery_ends (Irq pid k) later a b says l = absurd (false≢true l)
   last_delivery_ends (Gone pid) later a b says l = absurd (false≢true l)
 
-  last_ends : (what : What) (later : List What) (a b : Standing) → Says number what later a b
+  last_ends : (what : What) (later : List What) (a b : Standing) → Leads number what later a b
       → (is_return_of number what later || is_last_delivery_of number what) ≡ true → b ≡ Over
   last_ends what later a b says e = go (is_return_of number what later) refl e
     where
@@ -332,8 +332,8 @@ module _ (number : Number) where
 
   -- ---- all
 
-  pub told_once : (told : List What) (a b : Standing) → SayInTurn number told a b → AreDeliveriesOnce number told a
-  unfolding SayInTurn
+  pub told_once : (told : List What) (a b : Standing) → LeadInTurn number told a b → AreDeliveriesOnce number told a
+  unfolding LeadInTurn
   told_once told a b says =
       let counted = all_counted told a b says in
       let x : deliveries_in number told + due b ≤ due a + forwards_in number told = counted.deliveries in
@@ -351,13 +351,13 @@ module _ (number : Number) where
       between : (before between later : List What) (one two : What) → told ≡ before ++ (one ∷ between ++ (two ∷ later))
           → is_delivery_of number one ≡ true → is_delivery_of number two ≡ true → HasForward number between (two ∷ later)
       between before middle later one two e d f =
-          let at = front_off before (one ∷ middle ++ (two ∷ later)) a b (subst (λ xs. SayInTurn number xs a b) e says) in
+          let at = front_off before (one ∷ middle ++ (two ∷ later)) a b (subst (λ xs. LeadInTurn number xs a b) e says) in
           needs_forward middle later two at.1.0 b (delivery_leaves one (middle ++ (two ∷ later)) at.0 at.1.0 at.1.1 d) f at.1.2
 
       ended : (before later : List What) (what : What) → told ≡ before ++ (what ∷ later)
           → (is_return_of number what later || is_last_delivery_of number what) ≡ true → IsSilent number later
       ended before later what e r =
-          let at = front_off before (what ∷ later) a b (subst (λ xs. SayInTurn number xs a b) e says) in
+          let at = front_off before (what ∷ later) a b (subst (λ xs. LeadInTurn number xs a b) e says) in
           (over_silent later at.1.0 b (last_ends what later at.0 at.1.0 at.1.1 r) at.1.2).0
 
 -- ---- runs and histories

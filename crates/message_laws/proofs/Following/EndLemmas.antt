@@ -38,12 +38,12 @@ module _ (number : Number) where
   test = is_of_number number
 
   -- that held messages lose their sender leaves which there are
-  senderless_any : (pid : Pid) (xs : List Message) → list_any test (map (senderless_from pid) xs) ≡ list_any test xs
+  pub senderless_any : (pid : Pid) (xs : List Message) → list_any test (map (senderless_from pid) xs) ≡ list_any test xs
   senderless_any pid [] = refl
   senderless_any pid (x ∷ xs) = ap (λ b. test x || b) (senderless_any pid xs)
 
   -- what is left of a list was in it
-  left_any : (keep : Message → Bool) (xs : List Message) → list_any test xs ≡ false → list_any test (filter keep xs) ≡ false
+  pub left_any : (keep : Message → Bool) (xs : List Message) → list_any test xs ≡ false → list_any test (filter keep xs) ≡ false
   left_any keep [] e = refl
   left_any keep (x ∷ xs) e =
       let parts = or_parts (test x) (list_any test xs) e in

@@ -14,7 +14,7 @@ use Rattle.machine_history.proofs.Histories.MomentLemmas.{history_is_run}
 use Rattle.machine_model.specs.Runs.Matched.{Matched}
 use Rattle.machine_model.specs.Runs.Moments.{IsRun, Moment, state_at}
 use Rattle.machine_model.specs.State.Machine.{Machine}
-use Rattle.message_laws.specs.Following.{Accepted, Delivered, Forwarded, Held, LostHeld, LostQueued, Over, Queued, Returned, Says, SayInTurn, Standing, Stands, Stays, Unsent, is_end_in, is_last_delivery_of, is_message_of, is_return_of}
+use Rattle.message_laws.specs.Following.{Accepted, Delivered, Forwarded, Held, LostHeld, LostQueued, Over, Queued, Returned, Leads, LeadInTurn, Standing, Stands, Stays, Unsent, is_end_in, is_last_delivery_of, is_message_of, is_return_of}
 use Rattle.message_laws.specs.NothingLost.{HasEnding, IsAtServer, NothingIsLost, StandsOnce, is_ending_of}
 use Rattle.message_laws.proofs.Following.CountLemmas.{last_matched}
 use Rattle.message_laws.proofs.Following.StandLemmas.{one_standing, some_standing}
@@ -37,7 +37,7 @@ module _ (number : Number) where
       ∙ (ap (λ b. is_return_of number what later || b) (or_true (is_last_delivery_of number what)) ∙ or_true (is_return_of number what later))
 
   -- a record that makes a message over ends it
-  says_ending : (what : What) (later : List What) (a b : Standing) → Says number what later a b → b ≡ Over → (a ≡ Over) ⊎ (is_ending_of number what later ≡ true)
+  says_ending : (what : What) (later : List What) (a b : Standing) → Leads number what later a b → b ≡ Over → (a ≡ Over) ⊎ (is_ending_of number what later ≡ true)
   says_ending what later _ _ (Accepted _ _ e) p = absurd (let q : Queued ≡ Over = p in cc)
   says_ending _ later _ _ (Delivered who words _ e) p = inr (go (is_waiting_kind (slice_index words 2)) refl p)
     where
@@ -59,8 +59,8 @@ module _ (number : Number) where
     ends = e.ends;
   }
 
-  told_ending : (told : List What) (a b : Standing) → SayInTurn number told a b → b ≡ Over → (a ≡ Over) ⊎ HasEnding number told
-  unfolding SayInTurn
+  told_ending : (told : List What) (a b : Standing) → LeadInTurn number told a b → b ≡ Over → (a ≡ Over) ⊎ HasEnding number told
+  unfolding LeadInTurn
   told_ending [] a b says over = inl (says ∙ over)
   told_ending (what ∷ told) a b says over = go (told_ending told says.0 b says.2 over)
     where

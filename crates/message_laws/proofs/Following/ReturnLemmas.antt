@@ -2,9 +2,9 @@
 use Rattle.std.proofs.Common.{◌≡◌, ◌≢◌, ℕ, zero, suc, ◌+◌, ◌<◌, ◌≤◌, inr, Bool, true, false, List, [], ◌∷◌, Option, Some, None, refl, sym, ap, ◌∙◌, subst, arith}
 use Rattle.std.specs.Prelude.{◌==◌, ◌&&◌, find, is_none, is_some, not, unwrap_or}
 use Rattle.std.specs.List.{list_any}
-use Rattle.std.specs.Option.{option_and_then, option_map_or, option_or}
+use Rattle.std.specs.Option.{option_and_then, option_map, option_map_or, option_or}
 use Rattle.std.proofs.lemmas.Bool.{and_parts, eq-eqb, eqb-true, false≢true}
-use Rattle.std.proofs.lemmas.Option.{none-some}
+use Rattle.std.proofs.lemmas.Option.{none-some, same_Some}
 use Rattle.xk_base.specs.declared.errors.XousError.TheVariants.{BadAddress, DoubleFree}
 use Rattle.xk_base.specs.declared.ids.Number.{Number}
 use Rattle.xk_base.specs.declared.ids.Serial.{Serial}
@@ -13,13 +13,15 @@ use Rattle.xk_base.specs.declared.messages.Message.{Message}
 use Rattle.xk_base.specs.Calls.CallNumbers.{forward_message, return_memory, return_scalar1, return_scalar2}
 use Rattle.xk_base.specs.Calls.CallWords.{call_number, forward_token, return_address, return_offset, return_size, return_token, return_valid, return_value1, return_value2}
 use Rattle.xk_base.specs.Calls.Replies.{plain_words, returned_words, scalar1_words, scalar2_words}
+use Rattle.xk_base.specs.Tables.Counting.{least_below}
 use Rattle.xk_base.specs.Tables.Sids.{serial_of}
+use Rattle.xk_base.proofs.CountingLemmas.{least_below-passes}
 use Rattle.machine_model.specs.Messaging.MessageCounts.{count_in}
 use Rattle.machine_model.specs.Messaging.Messages.{is_blocking_of, is_blocking_scalar, is_lend, is_lend_of, is_of_number, without_held}
-use Rattle.machine_model.specs.Messaging.ReturnCalls.{held_at, held_by_caller, holder_of, is_its_range, named_number, sender_gets, sender_of_message}
+use Rattle.machine_model.specs.Messaging.ReturnCalls.{held_at, held_by_caller, holder_of, holds, is_its_range, named_number, sender_gets, sender_of_message}
 use Rattle.machine_model.specs.Runs.Matched.{Matched}
 use Rattle.machine_model.specs.State.Machine.{Machine, Server}
-use Rattle.machine_model.specs.State.Servers.{change_server, messages_of}
+use Rattle.machine_model.specs.State.Servers.{change_server, is_server_of, messages_of}
 use Rattle.machine_model.specs.State.Threads.{Answers, answer_to, both_answers}
 use Rattle.machine_model.proofs.Matching.CountLemmas.{count_in-append}
 use Rattle.machine_laws.proofs.Calling.RunRefusalLemmas.{none_holds}
@@ -56,6 +58,25 @@ holder m test x e = go (holder_of m test) refl e
     go : (o : Option Serial) → holder_of m test ≡ o → option_and_then (held_at m test) o ≡ Some x → IsHolder m test x
     go None is f = absurd (none-some x f)
     go (Some serial) is f = at serial is (m.servers serial.0) refl f
+
+-- it is one of the caller's process
+pub holder_own : (m : Machine) (test : Message → Bool) (x : Message) (at : IsHolder m test x) → at.server.pid ≡ m.cursor.pid
+unfolding holder_of
+holder_own m test x at = go (least_below m.next_serial own_holds) refl at.is
+  where
+    own_holds : ℕ → Bool
+    own_holds n = is_server_of m.cursor.pid (m.servers n) && holds test (m.servers n)
+
+    owner : is_server_of m.cursor.pid (m.servers at.serial.0) ≡ true → at.server.pid ≡ m.cursor.pid
+    owner own =
+        let same : at.server.pid.0 ≡ m.cursor.pid.0 = eqb-true at.server.pid.0 m.cursor.pid.0 (sym (ap (is_server_of m.cursor.pid) at.there) ∙ own) in
+        λ i. record { 0 = same i }
+
+    go : (o : Option ℕ) → least_below m.next_serial own_holds ≡ o → option_map serial_of o ≡ Some at.serial → at.server.pid ≡ m.cursor.pid
+    go None q r = absurd (none-some at.serial r)
+    go (Some n) q r =
+        let passes = and_parts (is_server_of m.cursor.pid (m.servers n)) (holds test (m.servers n)) (least_below-passes m.next_serial own_holds n q) in
+        owner (ap (λ (s : Serial). is_server_of m.cursor.pid (m.servers s.0)) (sym (same_Some (serial_of n) at.serial r)) ∙ passes.0)
 
 module _ (number : Number) (m : Machine) (h : Matched m) (test : Message → Bool) (x : Message) (at : IsHolder m test x) (named : is_of_number number x ≡ true) where
   abbrev server : Server

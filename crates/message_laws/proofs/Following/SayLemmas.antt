@@ -10,7 +10,7 @@ use Rattle.xk_base.specs.declared.records.What.{What}
 use Rattle.xk_base.specs.declared.records.What.TheVariants.{Call, Reply, Retry, Byte, Fault, End, Irq, Gone}
 use Rattle.xk_base.specs.Calls.CallNumbers.{destroy_server, forward_message}
 use Rattle.xk_base.specs.Calls.CallWords.{call_number, forward_token, return_token}
-use Rattle.message_laws.specs.Following.{Accepted, Delivered, Forwarded, LostHeld, LostQueued, Returned, Says, SayInTurn, Standing, Stays, answer_in, is_delivery_of, is_end_in, is_forward_of, is_plain, is_return_call, is_return_of, is_served_by, next_answer}
+use Rattle.message_laws.specs.Following.{Accepted, Delivered, Forwarded, LostHeld, LostQueued, Returned, Leads, LeadInTurn, Standing, Stays, answer_in, is_delivery_of, is_end_in, is_forward_of, is_plain, is_return_call, is_return_of, is_served_by, next_answer}
 
 -- ---- the next answer
 
@@ -81,7 +81,7 @@ module _ (number : Number) where
   alike (Irq pid k) later more s = record { forward = refl; returned = refl; end = refl }
   alike (Gone pid) later more s = record { forward = refl; returned = refl; end = refl }
 
-  pub says_alike : (what : What) (later more : List What) (a b : Standing) → IsAlike what later more → Says number what later a b → Says number what more a b
+  pub says_alike : (what : What) (later more : List What) (a b : Standing) → IsAlike what later more → Leads number what later a b → Leads number what more a b
   says_alike what later more _ _ same (Accepted _ _ e) = Accepted what more e
   says_alike _ later more _ _ same (Delivered who words _ e) = Delivered who words more e
   says_alike what later more _ _ same (Forwarded _ _ e) = Forwarded what more (same.forward ∙ e)
@@ -93,19 +93,19 @@ module _ (number : Number) where
 
   -- ---- lists
 
-  pub say_none : (a : Standing) → SayInTurn number [] a a
-  unfolding SayInTurn
+  pub say_none : (a : Standing) → LeadInTurn number [] a a
+  unfolding LeadInTurn
   say_none a = refl
 
-  pub say_first : (what : What) (told : List What) (a b c : Standing) → Says number what told a b → SayInTurn number told b c → SayInTurn number (what ∷ told) a c
-  unfolding SayInTurn
+  pub say_first : (what : What) (told : List What) (a b c : Standing) → Leads number what told a b → LeadInTurn number told b c → LeadInTurn number (what ∷ told) a c
+  unfolding LeadInTurn
   say_first what told a b c says later = (b, says, later)
 
   -- one list after another in which each call is settled
-  pub say_append : (xs ys : List What) (a b c : Standing) → AreSettled xs → SayInTurn number xs a b → SayInTurn number ys b c
-      → SayInTurn number (xs ++ ys) a c
-  unfolding SayInTurn AreSettled
-  say_append [] ys a b c s x y = subst (λ d. SayInTurn number ys d c) (sym x) y
+  pub say_append : (xs ys : List What) (a b c : Standing) → AreSettled xs → LeadInTurn number xs a b → LeadInTurn number ys b c
+      → LeadInTurn number (xs ++ ys) a c
+  unfolding LeadInTurn AreSettled
+  say_append [] ys a b c s x y = subst (λ d. LeadInTurn number ys d c) (sym x) y
   say_append (what ∷ xs) ys a b c s x y = (
     x.0,
     says_alike what xs (xs ++ ys) a x.0 (alike what xs ys s.0) x.1,

@@ -1,6 +1,6 @@
 -- An accepted send: its message is queued, or goes to the thread that waits for one.
-use Rattle.std.proofs.Common.{◌≡◌, ℕ, ◌+◌, ◌<◌, ◌≤◌, ◌⊎◌, inl, inr, Bool, true, false, List, [], ◌∷◌, ◌++◌, Option, Some, None, refl, sym, ap, ◌∙◌, subst, arith}
-use Rattle.std.specs.Prelude.{◌&&◌, nat_eq, is_none, unwrap_or}
+use Rattle.std.proofs.Common.{◌≡◌, ◌≢◌, ℕ, ◌+◌, ◌<◌, ◌≤◌, ◌⊎◌, inl, inr, Bool, true, false, List, [], ◌∷◌, ◌++◌, Option, Some, None, refl, sym, ap, ◌∙◌, subst, arith}
+use Rattle.std.specs.Prelude.{◌&&◌, if◌then◌else◌, nat_eq, is_none, unwrap_or}
 use Rattle.std.specs.List.{list_any}
 use Rattle.std.specs.Option.{option_and_then, option_map, option_or}
 use Rattle.std.proofs.lemmas.Bool.{cases_lt, eq-eqb, eqb-true, false≢true}
@@ -12,7 +12,7 @@ use Rattle.xk_base.specs.declared.ids.ThreadId.{ThreadId}
 use Rattle.xk_base.specs.declared.ids.Vpn.{Vpn}
 use Rattle.xk_base.specs.declared.messages.Message.{Message}
 use Rattle.xk_base.specs.declared.messages.MsgKind.{MsgKind}
-use Rattle.xk_base.specs.declared.messages.MsgKind.TheVariants.{Scalar}
+use Rattle.xk_base.specs.declared.messages.MsgKind.TheVariants.{LendMut, Lend, Move, Scalar, BlockingScalar}
 use Rattle.xk_base.specs.Calls.CallNumbers.{send_message, try_send_message}
 use Rattle.xk_base.specs.Calls.CallWords.{call_number, send_address, send_cid, send_length}
 use Rattle.xk_base.specs.Calls.Kinds.{is_answered}
@@ -23,7 +23,7 @@ use Rattle.xk_base.specs.Tables.Counting.{put_at}
 use Rattle.xk_base.specs.Tables.Sids.{serial_of}
 use Rattle.ledger_model.specs.RunTests.{any_free, any_not_sent}
 use Rattle.machine_model.specs.Calling.MemoryCalls.{caller_place, is_bad_range}
-use Rattle.machine_model.specs.Messaging.Messages.{is_of_number, new_message, new_number}
+use Rattle.machine_model.specs.Messaging.Messages.{is_lend, is_of_number, new_message, new_number}
 use Rattle.machine_model.specs.Messaging.Receivers.{receiver}
 use Rattle.machine_model.specs.Messaging.SendCalls.{arrival, is_full_for, named_kind, sender_answered, sender_left, sends_lend_mut, sends_pages, sent_pages, sent_place, sent_serial, with_sent}
 use Rattle.machine_model.specs.Runs.LoanSpan.{is_send}
@@ -39,11 +39,11 @@ use Rattle.call_effects.specs.Effects.{arriving, at_server}
 use Rattle.call_effects.specs.Rows.MessageRows.{arrival_answers, send_row, sent_to_row, try_send_row}
 use Rattle.call_effects.proofs.ServedLemmas.{OfPlan, done}
 use Rattle.message_laws.specs.Following.{Held, Holds, Keeping, Lacks, Over, Queued, Queues, Standing, Stands, Unsent, keeping, keeping_by}
-use Rattle.message_laws.proofs.Following.KeepLemmas.{change_elsewhere, change_here, change_same, queued_other, queued_this, received_as, received_other, received_this}
+use Rattle.message_laws.proofs.Following.KeepLemmas.{change_elsewhere, change_here, change_same, queued_other, queued_this, received_as, received_other, received_this, this_last}
 use Rattle.message_laws.proofs.Following.ReceiveLemmas.{left_as}
 use Rattle.message_laws.proofs.Following.SayLemmas.{asks}
 use Rattle.message_laws.proofs.Following.ServedLemmas.{AnswersSay, Follows, One, Quiet, ServedSays, answer_itself, both_quiet, leaves_it, none_quiet, one_quiet, to_itself}
-use Rattle.message_laws.proofs.Following.StandLemmas.{now_stands, one_standing, standing_at, unsent_lacks}
+use Rattle.message_laws.proofs.Following.StandLemmas.{holds_not_lacks, now_stands, one_standing, queues_not_lacks, standing_at, unsent_lacks}
 use Rattle.message_laws.proofs.Following.TellLemmas.{CallSays, IsQuiet, Sends}
 
 -- ---- an arrival
@@ -53,6 +53,14 @@ pub lacks_both : (a b : Bool) → keeping_by a b ≡ Lacks → (a ≡ false) × 
 lacks_both true b e = absurd (let q : Queues ≡ Lacks = e in cc)
 lacks_both false true e = absurd (let q : Holds ≡ Lacks = e in cc)
 lacks_both false false e = (refl, refl)
+
+-- a lend has an answer
+pub lend_answered : (kind : MsgKind) → is_lend kind ≡ true → is_answered kind ≡ true
+lend_answered LendMut e = refl
+lend_answered Lend e = refl
+lend_answered Move e = absurd (false≢true e)
+lend_answered Scalar e = absurd (false≢true e)
+lend_answered BlockingScalar e = refl
 
 module _ (number : Number) (x : Message) where
   -- a message of another number
@@ -72,6 +80,19 @@ module _ (number : Number) (x : Message) where
   arrival_this e (Some who) server lacks =
       let both = lacks_both (list_any (is_of_number number) server.queued) (list_any (is_of_number number) server.held) lacks in
       received_this number x server e both.0 both.1
+
+  -- where it has an answer, the server has it then
+  pub arrival_kept : is_of_number number x ≡ true → is_answered x.kind ≡ true → (o : Option ThreadId) (server : Server)
+      → keeping number (Some (at_server (arriving o x) server)) ≢ Lacks
+  arrival_kept e answered None server lacks = queues_not_lacks (sym (queued_this number x server e) ∙ lacks)
+  arrival_kept e answered (Some who) server lacks =
+      go (list_any (is_of_number number) server.queued)
+      (sym (ap (keeping_by (list_any (is_of_number number) server.queued))
+      (ap (λ b. list_any (is_of_number number) (if b then server.held ++ x ∷ [] else server.held)) answered ∙ this_last number server.held x e)) ∙ lacks)
+    where
+      go : (b : Bool) → keeping_by b true ≡ Lacks → ⊥
+      go true lacks = queues_not_lacks lacks
+      go false lacks = holds_not_lacks lacks
 
   -- what its answers say
   module _ (processes : ℕ) (others : Answers) (quiet : IsQuiet others number (λ id. false)) where

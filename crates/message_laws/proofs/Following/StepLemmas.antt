@@ -46,7 +46,7 @@ use Rattle.machine_laws.proofs.Stepping.StepKindLemmas.{Executes, HandlerEnds, S
 use Rattle.machine_laws.proofs.Threading.ThreadAnswerLemmas.{same_thread-self}
 use Rattle.machine_laws.proofs.Threading.ThreadStepLemmas.{actor_ready, then_acted, turned_to}
 use Rattle.call_effects.proofs.ServedLemmas.{OfServed}
-use Rattle.message_laws.specs.Following.{Lacks, MessagesFollow, Says, SayInTurn, Standing, Stands, Stays, is_message_of, is_plain, is_return_call, is_served_by, keeping, next_answer}
+use Rattle.message_laws.specs.Following.{Lacks, MessagesFollow, Leads, LeadInTurn, Standing, Stands, Stays, is_message_of, is_plain, is_return_call, is_served_by, keeping, next_answer}
 use Rattle.message_laws.proofs.Following.EndLemmas.{death_keeps}
 use Rattle.message_laws.proofs.Following.ReceiveLemmas.{cursor_known}
 use Rattle.message_laws.proofs.Following.SayLemmas.{AreSettled, IsSettled, asks, say_append, say_first, say_none}
@@ -69,7 +69,7 @@ settled_first what told here later = (here, later)
 
 module _ (number : Number) (m : Machine) (h : Matched m) (ready : ready_at m m.cursor ≡ true) (w : List ℕ) where
   -- a call that wasn't served moves nothing
-  unserved : (later : List What) (a : Standing) → is_served_by m.cursor later ≡ false → Says number (Call m.cursor w) later a a
+  unserved : (later : List What) (a : Standing) → is_served_by m.cursor later ≡ false → Leads number (Call m.cursor w) later a a
   unserved later a none =
       Stays (Call m.cursor w) later a
       (λ i. false
@@ -96,7 +96,7 @@ module _ (number : Number) (m : Machine) (h : Matched m) (ready : ready_at m m.c
 
   -- the record of what comes of it, alone
   one_answer : (what : What) (next : Machine) → next.servers ≡ m.servers → next.next_number ≡ m.next_number
-      → ((later : List What) (a : Standing) → Says number what later a a) → is_served_by m.cursor (what ∷ []) ≡ false
+      → ((later : List What) (a : Standing) → Leads number what later a a) → is_served_by m.cursor (what ∷ []) ≡ false
       → is_some (next_answer m.cursor (what ∷ [])) ≡ true → AreSettled (what ∷ [])
       → (a : Standing) → Stands number m a → MessageTold number a (after (Call m.cursor w) (record { machine = next; told = what ∷ [] }))
   one_answer what next servers count quiet unserved_by some rest a stands = record {
@@ -247,7 +247,7 @@ module _ (number : Number) (m : Machine) (h : Matched m) (who : ThreadId) (acts 
   turned_stands : (a : Standing) → Stands number m a → Stands number n a
   turned_stands = like_stands number m n refl refl
 
-  then_told : (what : What) (done : Told) → ((later : List What) (a : Standing) → Says number what later a a) → ((later : List What) → IsSettled what later)
+  then_told : (what : What) (done : Told) → ((later : List What) (a : Standing) → Leads number what later a a) → ((later : List What) → IsSettled what later)
       → Tells number m done → Tells number m (after what done)
   then_told what done says settled tells a stands = quiet_first number a what done (λ later. says later a) settled (tells a stands)
 
@@ -333,13 +333,13 @@ module _ (number : Number) (m : Machine) (h : Matched m) (who : ThreadId) (acts 
 pub record LeadsTo (number : Number) (a : Standing) (next : Recorded) : Type 0 where
   pub end : Standing
   pub stands : Stands number next.machine end
-  pub says : SayInTurn number (map (λ (rec : Rec). rec.what) next.records) a end
+  pub says : LeadInTurn number (map (λ (rec : Rec). rec.what) next.records) a end
   pub settled : AreSettled (map (λ (rec : Rec). rec.what) next.records)
 
 abbrev pub LeadsOn : Number → Machine → Recorded → Type 0
 LeadsOn number m next = (a : Standing) → Stands number m a → LeadsTo number a next
 
-numbered : (k : ℕ) (told : List What) → map (λ (rec : Rec). rec.what) (map (record_of k) told) ≡ told
+pub numbered : (k : ℕ) (told : List What) → map (λ (rec : Rec). rec.what) (map (record_of k) told) ≡ told
 numbered k [] = refl
 numbered k (what ∷ told) = ap (λ later. what ∷ later) (numbered k told)
 
@@ -348,7 +348,7 @@ told_leads : (number : Number) (a : Standing) (k : ℕ) (done : Told) → Messag
 told_leads number a k done t = record {
   end = t.end;
   stands = t.stands;
-  says = subst (λ told. SayInTurn number told a t.end) (sym (numbered k done.told)) t.says;
+  says = subst (λ told. LeadInTurn number told a t.end) (sym (numbered k done.told)) t.says;
   settled = subst AreSettled (sym (numbered k done.told)) t.settled;
 }
 
@@ -358,13 +358,13 @@ nothing_leads number m next servers count a stands =
     told_leads number a 0 (record { machine = next; told = [] }) (nothing_told number next a (like_stands number m next servers count a stands))
 
 -- what the step of a thread makes of a machine
-abbrev stepped : Machine → ThreadId → Option Thread → Recorded
+abbrev pub stepped : Machine → ThreadId → Option Thread → Recorded
 stepped m who o = record {
   machine = (timed (counted (turned_to who m) o (acted_if_there (turned_to who m) o))).machine;
   records = map (record_of (m.steps + 1)) (timed (counted (turned_to who m) o (acted_if_there (turned_to who m) o))).told;
 }
 
-step_is : (m : Machine) (who : ThreadId) → actor m ≡ Some who → step m ≡ stepped m who (m.threads who)
+pub step_is : (m : Machine) (who : ThreadId) → actor m ≡ Some who → step m ≡ stepped m who (m.threads who)
 unfolding step step_by
 step_is m who acts = ap (λ a. step_by_if a m) acts
 
@@ -411,11 +411,11 @@ cause_leads number ByTurn m h = nothing_leads number m (turn m) refl refl
 pub run_leads : (start : Machine) (moments : List Moment) → Matched start → IsRun start moments → MessagesFollow start moments
 unfolding IsRun state_at records_of
 run_leads start [] h run number a b first last =
-    subst (SayInTurn number [] a) (one_standing number start h a b first last) (say_none number a)
+    subst (LeadInTurn number [] a) (one_standing number start h a b first last) (say_none number a)
 run_leads start (moment ∷ moments) h run number a b first last =
     let led = cause_leads number moment.cause start h a first in
     let here : Stands number moment.machine led.end = subst (λ next. Stands number next led.end) (sym run.0) led.stands in
-    subst (λ told. SayInTurn number told a b)
+    subst (λ told. LeadInTurn number told a b)
     (sym (map-append (λ (rec : Rec). rec.what) (records_by moment.cause start) (records_of moment.machine moments)))
     (say_append number (map (λ (rec : Rec). rec.what) (records_by moment.cause start)) (map (λ (rec : Rec). rec.what) (records_of moment.machine moments))
     a led.end b led.settled led.says

@@ -19,7 +19,7 @@ use Rattle.machine_model.specs.State.Changes.{death_told, replies}
 use Rattle.machine_model.specs.State.Threads.{Answers}
 use Rattle.machine_laws.proofs.Threading.ThreadAnswerLemmas.{same_thread-self}
 use Rattle.machine_laws.proofs.Threading.ThreadPutLemmas.{alike}
-use Rattle.message_laws.specs.Following.{Accepted, Delivered, Forwarded, Held, LostHeld, LostQueued, Over, Queued, Returned, Says, SayInTurn, Standing, Stays, Unsent, is_end_in, is_forward_of, is_message_of, is_plain, is_return_call, is_return_of, is_served_by, left_by, next_answer}
+use Rattle.message_laws.specs.Following.{Accepted, Delivered, Forwarded, Held, LostHeld, LostQueued, Over, Queued, Returned, Leads, LeadInTurn, Standing, Stays, Unsent, is_end_in, is_forward_of, is_message_of, is_plain, is_return_call, is_return_of, is_served_by, left_by, next_answer}
 use Rattle.message_laws.proofs.Following.SayLemmas.{AreSettled, IsSettled, next_append, say_first, say_none}
 use Rattle.message_laws.proofs.Following.StandLemmas.{Kept, LosesHeld, LosesQueued, MayLose}
 
@@ -63,7 +63,7 @@ module _ (answers : Answers) where
 
   module _ (number : Number) where
     stays_by : (id : ThreadId) (later : List What) (a : Standing) → is_message_of number (unwrap_or (answers id) []) ≡ false
-        → Says number (reply id) later a a
+        → Leads number (reply id) later a a
     stays_by id later a e = Stays (reply id) later a (λ i. e i || (false || false))
 
     silent : (but : ThreadId → Bool) → IsQuiet number but → (id : ThreadId) → but id ≡ false → is_some (answers id) ≡ true
@@ -75,14 +75,14 @@ module _ (answers : Answers) where
         go (Some words) e s = quiet id words other e
 
     quiet_ids : (but : ThreadId → Bool) → IsQuiet number but → (a : Standing) (ids : List ThreadId)
-        → All (λ id. (but id ≡ false) × (is_some (answers id) ≡ true)) ids → SayInTurn number (map reply ids) a a
+        → All (λ id. (but id ≡ false) × (is_some (answers id) ≡ true)) ids → LeadInTurn number (map reply ids) a a
     quiet_ids but quiet a [] all = say_none number a
     quiet_ids but quiet a (id ∷ ids) all =
         let here = all 0 id (omega arith) in
         say_first number (reply id) (map reply ids) a a a (stays_by id (map reply ids) a (silent but quiet id here.0 here.1))
         (quiet_ids but quiet a ids (λ k d low. all (suc k) d (omega arith)))
 
-    pub quiet_say : (n : ℕ) → IsQuiet number (λ id. false) → (a : Standing) → SayInTurn number (replies n answers) a a
+    pub quiet_say : (n : ℕ) → IsQuiet number (λ id. false) → (a : Standing) → LeadInTurn number (replies n answers) a a
     quiet_say n quiet a =
         quiet_ids (λ id. false) quiet a (listed_ids n (λ id. is_some (answers id)))
         (λ k d low. (refl, (listed_ids-passes n (λ id. is_some (answers id)) k d low).1))
@@ -96,16 +96,16 @@ module _ (answers : Answers) where
           go false q = refl
           go true q = absurd (apart (ap place_of (alike id who q)))
 
-      delivered : (later : List What) → Says number (reply who) later Queued (left_by words)
+      delivered : (later : List What) → Leads number (reply who) later Queued (left_by words)
       delivered later =
-          subst (λ o. Says number (Reply who (unwrap_or o [])) later Queued (left_by words)) (sym e) (Delivered who words later is)
+          subst (λ o. Leads number (Reply who (unwrap_or o [])) later Queued (left_by words)) (sym e) (Delivered who words later is)
 
       one_ids : (ids : List ThreadId) → AllPairs (λ (a b : ThreadId). place_of a < place_of b) ids → All (λ id. is_some (answers id) ≡ true) ids
-          → (k : ℕ) → k < length ids → get_or ids k who ≡ who → SayInTurn number (map reply ids) Queued (left_by words)
+          → (k : ℕ) → k < length ids → get_or ids k who ≡ who → LeadInTurn number (map reply ids) Queued (left_by words)
       one_ids [] ascend all k low here = absurd (omega arith)
       one_ids (id ∷ ids) ascend all zero low here =
           say_first number (reply id) (map reply ids) Queued (left_by words) (left_by words)
-          (subst (λ x. Says number (reply x) (map reply ids) Queued (left_by words)) (sym here) (delivered (map reply ids)))
+          (subst (λ x. Leads number (reply x) (map reply ids) Queued (left_by words)) (sym here) (delivered (map reply ids)))
           (quiet_ids (λ x. same_thread x who) quiet (left_by words) ids
           (λ j d l. (other_place (slice_index_or ids j d) (later j d l), all (suc j) d (omega arith))))
         where
@@ -131,7 +131,7 @@ module _ (answers : Answers) where
               omega arith
 
       pub delivery_say : (n : ℕ) → AllPairs (λ (a b : ThreadId). place_of a < place_of b) (listed_ids n (λ id. is_some (answers id)))
-          → is_thread_id n who ≡ true → SayInTurn number (replies n answers) Queued (left_by words)
+          → is_thread_id n who ≡ true → LeadInTurn number (replies n answers) Queued (left_by words)
       delivery_say n ascend known =
           let at = listed_ids-contains n (λ id. is_some (answers id)) who known (ap is_some e) in
           one_ids (listed_ids n (λ id. is_some (answers id))) ascend
@@ -161,12 +161,12 @@ abbrev pub GoneSays : Option Pid → Standing → Standing → Type 0
 GoneSays None a b = a ≡ b
 GoneSays (Some pid) a b = MayLose a b
 
-pub gone_say : (number : Number) (o : Option Pid) (a b : Standing) → GoneSays o a b → SayInTurn number (death_told o) a b
-unfolding SayInTurn
+pub gone_say : (number : Number) (o : Option Pid) (a b : Standing) → GoneSays o a b → LeadInTurn number (death_told o) a b
+unfolding LeadInTurn
 gone_say number None a b e = e
 gone_say number (Some pid) a b lose = (b, says a b lose, refl)
   where
-    says : (a b : Standing) → MayLose a b → Says number (Gone pid) [] a b
+    says : (a b : Standing) → MayLose a b → Leads number (Gone pid) [] a b
     says _ _ (Kept a) = Stays (Gone pid) [] a refl
     says _ _ LosesQueued = LostQueued (Gone pid) [] refl
     says _ _ LosesHeld = LostHeld (Gone pid) [] refl
@@ -195,7 +195,7 @@ not_both x y z e f = go (x == z) refl
     go true q = absurd (false≢true (sym f ∙ eq-eqb y z (sym (eqb-true x y e) ∙ eqb-true x z q)))
 
 pub call_say : (number : Number) (who : ThreadId) (w : List ℕ) (later : List What) (a b : Standing)
-    → CallSays number w (next_answer who later ≡ Some plain_words) a b → Says number (Call who w) later a b
+    → CallSays number w (next_answer who later ≡ Some plain_words) a b → Leads number (Call who w) later a b
 call_say number who w later _ _ (Sends e) = Accepted (Call who w) later e
 call_say number who w later _ _ (Forwards e token plain) =
     Forwarded (Call who w) later
@@ -218,7 +218,7 @@ call_say number who w later _ _ (Destroys e plain a b lose) = go a b lose
     no_return =
         (λ i. is_return_call (eqb-true (call_number w) destroy_server e i) && ((return_token w == number.0) && is_served_by who later))
 
-    go : (a b : Standing) → MayLose a b → Says number (Call who w) later a b
+    go : (a b : Standing) → MayLose a b → Leads number (Call who w) later a b
     go _ _ (Kept a) = Stays (Call who w) later a (λ i. false || (no_forward i || no_return i))
     go _ _ LosesQueued = LostQueued (Call who w) later ends
     go _ _ LosesHeld = LostHeld (Call who w) later ends

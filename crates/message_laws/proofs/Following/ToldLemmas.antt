@@ -14,7 +14,7 @@ use Rattle.machine_model.specs.State.Machine.{Machine, Server}
 use Rattle.machine_model.specs.Stepping.Timer.{is_due, stands_after_irq, timed, timed_if, timer_change, with_irq, with_irq_if}
 use Rattle.machine_model.proofs.Runs.TimerLemmas.{timed_raised}
 use Rattle.record_laws.proofs.Ordering.ChangeLemmas.{places_ascend}
-use Rattle.message_laws.specs.Following.{Held, Over, Queued, Says, SayInTurn, Standing, Stands, Stays, Unsent, answer_in, is_plain, is_return_call, is_served_by, keeping, next_answer}
+use Rattle.message_laws.specs.Following.{Held, Over, Queued, Leads, LeadInTurn, Standing, Stands, Stays, Unsent, answer_in, is_plain, is_return_call, is_served_by, keeping, next_answer}
 use Rattle.message_laws.proofs.Following.SayLemmas.{AreSettled, IsAlike, IsSettled, next_append, say_append, say_first, say_none, says_alike}
 use Rattle.message_laws.proofs.Following.ServedLemmas.{AnswersSay, One, Quiet}
 use Rattle.message_laws.proofs.Following.TellLemmas.{GoneSays, deaths_settled, delivery_say, gone_say, quiet_say, replies_settled, settled_append}
@@ -34,14 +34,14 @@ like_stands number m next servers count Over p =
 pub record MessageTold (number : Number) (a : Standing) (done : Told) : Type 0 where
   pub end : Standing
   pub stands : Stands number done.machine end
-  pub says : SayInTurn number done.told a end
+  pub says : LeadInTurn number done.told a end
   pub settled : AreSettled done.told
 
 abbrev pub Tells : Number → Machine → Told → Type 0
 Tells number m done = (a : Standing) → Stands number m a → MessageTold number a done
 
 -- a record that moves no message, before what is told
-pub quiet_first : (number : Number) (a : Standing) (what : What) (done : Told) → ((later : List What) → Says number what later a a)
+pub quiet_first : (number : Number) (a : Standing) (what : What) (done : Told) → ((later : List What) → Leads number what later a a)
     → ((later : List What) → IsSettled what later) → MessageTold number a done → MessageTold number a (record done { told = what ∷ done.told })
 quiet_first number a what done says settled t = record {
   end = t.end;
@@ -67,7 +67,7 @@ settled_more (Irq pid k) later more s = tt
 settled_more (Gone pid) later more s = tt
 
 -- of the delivery of an interrupt
-delivery_quiet : (number : Number) (o : Option Delivery) (a : Standing) → SayInTurn number (delivery_told o) a a
+delivery_quiet : (number : Number) (o : Option Delivery) (a : Standing) → LeadInTurn number (delivery_told o) a a
 delivery_quiet number None a = say_none number a
 delivery_quiet number (Some d) a = say_first number (Irq d.pid d.number) [] a a a (Stays (Irq d.pid d.number) [] a refl) (say_none number a)
 
@@ -92,13 +92,13 @@ module _ (number : Number) (change : Change) where
       (replies_settled change.answers (listed_ids change.machine.processes (λ id. is_some (change.answers id)))) later_settled settled_more
 
   answers_say : (a b : Standing) → AnswersSay number change.machine.processes change.answers a b
-      → SayInTurn number (replies change.machine.processes change.answers) a b
+      → LeadInTurn number (replies change.machine.processes change.answers) a b
   answers_say _ _ (Quiet quiet a) = quiet_say change.answers number change.machine.processes quiet a
   answers_say _ _ (One who words e is quiet known) =
       delivery_say change.answers number who words e is quiet change.machine.processes (places_ascend change.machine.processes change.answers) known
 
   pub change_says : (a b c : Standing) → AnswersSay number change.machine.processes change.answers a b → GoneSays change.gone b c
-      → SayInTurn number (settled change).told a c
+      → LeadInTurn number (settled change).told a c
   unfolding settled
   change_says a b c answers gone =
       say_append number (replies change.machine.processes change.answers) later a b c
@@ -156,13 +156,13 @@ module _ (number : Number) (d : Delivery) where
   settled_irq (Irq pid k) told s = tt
   settled_irq (Gone pid) told s = tt
 
-  irq_says : (told : List What) (a b : Standing) → SayInTurn number told a b → SayInTurn number (with_irq d told) a b
-  unfolding SayInTurn
+  irq_says : (told : List What) (a b : Standing) → LeadInTurn number told a b → LeadInTurn number (with_irq d told) a b
+  unfolding LeadInTurn
   irq_says [] a b says = (a, Stays (Irq d.pid d.number) [] a refl, says)
   irq_says (what ∷ told) a b says = go (irq_says told says.0 b says.2) (stands_after_irq d.pid what)
     where
-      go : SayInTurn number (with_irq d told) says.0 b → (c : Bool)
-          → SayInTurn number (if c then Irq d.pid d.number ∷ what ∷ told else what ∷ with_irq d told) a b
+      go : LeadInTurn number (with_irq d told) says.0 b → (c : Bool)
+          → LeadInTurn number (if c then Irq d.pid d.number ∷ what ∷ told else what ∷ with_irq d told) a b
       go rest true = (a, Stays (Irq d.pid d.number) (what ∷ told) a refl, says)
       go rest false = (says.0, says_alike number what told (with_irq d told) a says.0 (alike_irq what told) says.1, rest)
 
@@ -184,7 +184,7 @@ timed_told number a done t = record {
   settled = ends (is_due done.machine.compare done.machine.steps);
 }
   where
-    irq_if : (o : Option Delivery) → SayInTurn number (with_irq_if o done.told) a t.end
+    irq_if : (o : Option Delivery) → LeadInTurn number (with_irq_if o done.told) a t.end
     irq_if None = t.says
     irq_if (Some d) = irq_says number d done.told a t.end t.says
 
@@ -192,7 +192,7 @@ timed_told number a done t = record {
     settled_if None = t.settled
     settled_if (Some d) = irq_settled number d done.told t.settled
 
-    says : (b : Bool) → SayInTurn number (timed_if b done).told a t.end
+    says : (b : Bool) → LeadInTurn number (timed_if b done).told a t.end
     says false = t.says
     says true = irq_if (timer_change done.machine).delivery
 

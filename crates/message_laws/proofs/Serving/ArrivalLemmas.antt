@@ -1,5 +1,5 @@
 -- Who waits for an answer, what arrives at a server, and what a death leaves of it.
-use Rattle.std.proofs.Common.{◌≡◌, ℕ, ◌<◌, inr, Bool, true, false, [], get_or, length, Option, Some, None, refl, sym, ap, ◌∙◌}
+use Rattle.std.proofs.Common.{◌≡◌, ℕ, ◌<◌, inl, inr, Bool, true, false, get_or, length, Option, Some, None, refl, sym, ap, ◌∙◌}
 use Rattle.std.specs.Prelude.{if◌then◌else◌}
 use Rattle.std.specs.Option.{option_map, option_map_or}
 use Rattle.std.proofs.lemmas.Bool.{and_from, eq-eqb, eqb-true, false≢true}
@@ -14,8 +14,9 @@ use Rattle.xk_base.specs.Tables.Circle.{same_thread}
 use Rattle.machine_model.specs.Ending.Closing.{closed, is_sender_at, senders_held_gone, senders_queued_gone, servers_closed, with_senderless_from, without_queued_from}
 use Rattle.machine_model.specs.Ending.Ends.{death, forgotten}
 use Rattle.machine_model.specs.Messaging.Messages.{is_of_number, is_sent_by}
-use Rattle.machine_model.specs.Messaging.Receivers.{receiver}
+use Rattle.machine_model.specs.Messaging.Receivers.{is_receiving, receiver, receiving_at}
 use Rattle.machine_model.specs.Runs.Matched.{IsServerAwaited, Matched, is_sent_as, is_waiting_for, waits_for}
+use Rattle.machine_model.specs.Runs.Moments.{Cause}
 use Rattle.machine_model.specs.State.Machine.{Idle, Joining, Machine, Ready, Receiving, Server, Thread, ThreadState, Waiting}
 use Rattle.machine_model.specs.State.Servers.{is_server_of, messages_of}
 use Rattle.machine_model.specs.Messaging.MessageCounts.{HasIf, count_at}
@@ -28,6 +29,12 @@ use Rattle.call_effects.specs.Rows.MessageRows.{arrival_answers}
 use Rattle.message_laws.specs.Serving.{Arrives, AtOnce, Ends, ListStep, Lists, LosesSender, Queues, Receives, ServerStep, Stays}
 use Rattle.message_laws.proofs.Following.ReturnLemmas.{IsHolder}
 use Rattle.message_laws.proofs.Serving.AtServerLemmas.{AreMeant, none_meant, one_meant, refused_meant}
+
+-- ---- whose a server is
+
+-- the server that passes is the process's
+pub server_owner : (pid : Pid) (server : Server) → is_server_of pid (Some server) ≡ true → server.pid ≡ pid
+server_owner pid server own = let same : server.pid.0 ≡ pid.0 = eqb-true server.pid.0 pid.0 own in λ i. record { 0 = same i }
 
 -- ---- who waits for an answer
 
@@ -80,41 +87,49 @@ sender_waits m h test x at who sender = go (waits_for m.threads who x.number) re
 
 -- ---- an arrival
 
--- a thread that waits at a server finds no message queued there
-pub nothing_queued : (m : Machine) → Matched m → (serial : Serial) (who : ThreadId) → receiver m serial ≡ Some who
-    → (server : Server) × (m.servers serial.0 ≡ Some server) × (server.queued ≡ [])
+-- a thread that waits at a server finds no message queued there, and the server is its process's
+pub nothing_queued : (m : Machine) → Matched m → (serial : Serial) (who : ThreadId) → receiver m serial ≡ Some who → IsServerAwaited m.servers who.pid serial
 nothing_queued m h serial who e =
     let at = receiver_receives m serial who e in
-    let awaited : IsServerAwaited m.servers who.pid serial = h.body.receivers who at.0 serial at.1 at.2 in
-    (awaited.server, awaited.live, awaited.empty)
+    h.body.receivers who at.0 serial at.1 at.2
 
-module _ (m : Machine) (h : Matched m) (serial : Serial) (x : Message) (arrives : Arrives m x) where
-  pub arrival_step : (server : Server) → m.servers serial.0 ≡ Some server → ListStep m server (at_server (arriving (receiver m serial) x) server)
-  arrival_step server there = go (receiver m serial) refl
+-- who gets a message at once waits at that server
+pub receives_there : (m : Machine) (serial : Serial) (who : ThreadId) → receiver m serial ≡ Some who → receiving_at m serial who ≡ true
+receives_there m serial who e =
+    let thread = receiver_receives m serial who e in
+    ap (λ o. option_map_or (λ (t : Thread). is_receiving serial t.state) o false) thread.1
+    ∙ (ap (is_receiving serial) thread.2 ∙ eq-eqb serial.0 serial.0 refl)
+
+module _ (cause : Cause) (m : Machine) (h : Matched m) (serial : Serial) (x : Message) (arrives : Arrives serial.0 x cause m) where
+  pub arrival_step : (next : Machine) (Dies : Pid → Type 0) (server : Server) → m.servers serial.0 ≡ Some server
+      → ListStep serial.0 cause m next Dies server (at_server (arriving (receiver m serial) x) server)
+  arrival_step next Dies server there = go (receiver m serial) refl
     where
-      go : (o : Option ThreadId) → receiver m serial ≡ o → ListStep m server (at_server (arriving o x) server)
+      go : (o : Option ThreadId) → receiver m serial ≡ o → ListStep serial.0 cause m next Dies server (at_server (arriving o x) server)
       go None e = Queues x arrives refl
       go (Some who) e =
           let at = nothing_queued m h serial who e in
-          Receives x arrives (ap (λ (s : Server). s.queued) (same_Some server at.0 (sym there ∙ at.1)) ∙ at.2) refl
+          let same = same_Some server at.server (sym there ∙ at.live) in
+          Receives x who arrives (ap (λ (s : Server). s.queued) same ∙ at.empty) (ap (λ (s : Server). s.pid) same ∙ at.own) (receives_there m serial who e) refl
 
-  pub arrival_meant : AreMeant m (arrival_answers (receiver m serial) x)
+  pub arrival_meant : AreMeant cause m (arrival_answers (receiver m serial) x)
   arrival_meant = go (receiver m serial) refl
     where
-      go : (o : Option ThreadId) → receiver m serial ≡ o → AreMeant m (arrival_answers o x)
-      go None e = none_meant m
+      go : (o : Option ThreadId) → receiver m serial ≡ o → AreMeant cause m (arrival_answers o x)
+      go None e = none_meant cause m
       go (Some who) e =
           let at = nothing_queued m h serial who e in
           let thread = receiver_receives m serial who e in
-          one_meant m who (message_words x) (
-            inr (x, AtOnce serial.0 at.0 at.1 at.2 arrives, refl),
+          let waits : receiving_at m serial who ≡ true = receives_there m serial who e in
+          one_meant cause m who (message_words x) (
+            inr (x, record { n = serial.0; server = at.server; there = at.live; own = at.own; reaches = AtOnce at.empty arrives waits }, refl),
             λ number waits. absurd (not_waiting m who thread.0 thread.1 (receiving_waits_not serial thread.0.state thread.2) number waits),
           )
 
 -- ---- ends
 
-module _ (m : Machine) (pid : Pid) where
-  pub death_serves : (n : ℕ) → ServerStep m (death pid m).machine n
+module _ (cause : Cause) (m : Machine) (pid : Pid) where
+  pub death_serves : (n : ℕ) → ServerStep n cause m (death pid m).machine (λ other. Some pid ≡ Some other)
   unfolding death servers_closed closed senders_queued_gone senders_held_gone forgotten
   death_serves n = go (is_server_of pid (m.servers n)) refl
     where
@@ -123,18 +138,25 @@ module _ (m : Machine) (pid : Pid) where
       now b e =
           ap (λ c. option_map (with_senderless_from pid) (option_map (without_queued_from pid) (if c then None else m.servers n))) e
 
-      alive : (o : Option Server) → m.servers n ≡ o → is_server_of pid (m.servers n) ≡ false → ServerStep m (death pid m).machine n
+      -- a server of the process ends
+      ended : (o : Option Server) → m.servers n ≡ o → is_server_of pid o ≡ true → (death pid m).machine.servers n ≡ None
+          → ServerStep n cause m (death pid m).machine (λ other. Some pid ≡ Some other)
+      ended None there own gone = absurd (false≢true own)
+      ended (Some server) there own gone = Ends server there gone (inl (ap (λ p. Some p) (sym (server_owner pid server own))))
+
+      alive : (o : Option Server) → m.servers n ≡ o → is_server_of pid (m.servers n) ≡ false
+          → ServerStep n cause m (death pid m).machine (λ other. Some pid ≡ Some other)
       alive None there e =
           Stays (now false e ∙ (ap (λ o. option_map (with_senderless_from pid) (option_map (without_queued_from pid) o)) there ∙ sym there))
       alive (Some server) there e =
           Lists server (with_senderless_from pid (without_queued_from pid server)) there
           (now false e ∙ ap (λ o. option_map (with_senderless_from pid) (option_map (without_queued_from pid) o)) there)
-          (LosesSender pid refl)
+          (LosesSender pid refl refl)
 
-      go : (b : Bool) → is_server_of pid (m.servers n) ≡ b → ServerStep m (death pid m).machine n
-      go true e = Ends (now true e)
+      go : (b : Bool) → is_server_of pid (m.servers n) ≡ b → ServerStep n cause m (death pid m).machine (λ other. Some pid ≡ Some other)
+      go true e = ended (m.servers n) refl e (now true e)
       go false e = alive (m.servers n) refl e
 
-  pub death_meant : AreMeant m (death pid m).answers
+  pub death_meant : AreMeant cause m (death pid m).answers
   unfolding death servers_closed closed
-  death_meant = refused_meant m (is_sender_at (λ n. is_server_of pid (m.servers n)) m)
+  death_meant = refused_meant cause m (is_sender_at (λ n. is_server_of pid (m.servers n)) m)

@@ -38,7 +38,7 @@ use Rattle.machine_laws.proofs.Stepping.EveryStepLemmas.{every_cause_keeps}
 use Rattle.message_laws.specs.Accepting.{Accepts}
 use Rattle.message_laws.specs.Contents.{DeliveredAsSent, IsAsSent, RepliesAt}
 use Rattle.message_laws.specs.Following.{is_message_of}
-use Rattle.message_laws.specs.Serving.{Arrives, AtOnce, Ends, Founded, FromQueue, IsDelivered, IsDelivery, IsForwarded, IsMeant, IsSent, LetsGo, ListStep, Lists, LosesSender, Queues, Receives, ServerStep, Stays, Takes}
+use Rattle.message_laws.specs.Serving.{Arrives, AtOnce, DiesIn, Ends, Forwards, Founded, FromQueue, IsDelivered, IsDelivery, IsForwarded, IsMeant, IsSent, ListStep, Lists, LosesSender, Queues, Reaches, Receives, Returns, ServerStep, Stays, Takes, told_by}
 use Rattle.message_laws.proofs.Accepting.AcceptedLemmas.{moment_gives, run_climbs}
 use Rattle.message_laws.proofs.Serving.ServedStepLemmas.{all_served}
 
@@ -170,50 +170,55 @@ module _ (number : Number) (w : List ℕ) where
   held_too true xs x all fits = with_last xs x all fits
   held_too false xs x all fits = all
 
-  module _ (m : Machine) (arrival : (x : Message) → Arrives m x → Fits x) where
-    list_fits : (before after : Server) → ListStep m before after → AllFit before → AllFit after
-    list_fits before after (Queues x a is) all =
-        subst AllFit (sym is) (record { queued = with_last before.queued x all.queued (arrival x a); held = all.held })
-    list_fits before after (Receives x a empty is) all =
-        subst AllFit (sym is) (record { queued = all.queued; held = held_too (is_answered x.kind) before.held x all.held (arrival x a) })
-    list_fits before after (Takes x first is) all =
+  module _ (cause : Cause) (m : Machine) (arrival : (n : ℕ) (x : Message) → Arrives n x cause m → Fits x) where
+    list_fits : (n : ℕ) (next : Machine) (Dies : Pid → Type 0) (before after : Server) → ListStep n cause m next Dies before after → AllFit before → AllFit after
+    list_fits n next Dies before after (Queues x a is) all =
+        subst AllFit (sym is) (record { queued = with_last before.queued x all.queued (arrival n x a); held = all.held })
+    list_fits n next Dies before after (Receives x who a empty own waits is) all =
+        subst AllFit (sym is) (record { queued = all.queued; held = held_too (is_answered x.kind) before.held x all.held (arrival n x a) })
+    list_fits n next Dies before after (Takes x who first own r is) all =
         subst AllFit (sym is) (record {
           queued = rest_fits before.queued all.queued;
           held = held_too (is_answered x.kind) before.held x all.held (oldest_fits before.queued x first all.queued);
         })
-    list_fits before after (LetsGo k is) all =
+    list_fits n next Dies before after (Returns k r is) all =
         subst AllFit (sym is) (record { queued = all.queued; held = All-filter (λ x. not (is_of_number k x)) Fits before.held all.held })
-    list_fits before after (LosesSender pid is) all =
+    list_fits n next Dies before after (Forwards to x r from kept is) all =
+        subst AllFit (sym is) (record { queued = all.queued; held = All-filter (λ y. not (is_of_number x.number y)) Fits before.held all.held })
+    list_fits n next Dies before after (LosesSender pid dies is) all =
         subst AllFit (sym is) (record {
           queued = All-filter _ Fits before.queued all.queued;
           held = All-map Fits (senderless_from pid) before.held
               (λ k d low e. from_senderless w (get_or before.held k d) pid (all.held k d low e));
         })
 
-    server_fits : (next : Machine) → Carried m → ((n : ℕ) → ServerStep m next n) → Carried next
-    server_fits next carried steps n server there = go (steps n)
+    server_fits : (next : Machine) (Dies : Pid → Type 0) → Carried m → ((n : ℕ) → ServerStep n cause m next Dies) → Carried next
+    server_fits next Dies carried steps n server there = go (steps n)
       where
-        go : ServerStep m next n → AllFit server
+        go : ServerStep n cause m next Dies → AllFit server
         go (Stays e) = carried n server (sym e ∙ there)
         go (Founded new none now queued held) =
             subst AllFit (same_Some new server (sym now ∙ there)) (record {
               queued = subst (All Fits) (sym queued) (All-nil Fits);
               held = subst (All Fits) (sym held) (All-nil Fits);
             })
-        go (Ends e) = absurd (none-some server (sym e ∙ there))
+        go (Ends old was e why) = absurd (none-some server (sym e ∙ there))
         go (Lists before after was now step) =
-            subst AllFit (same_Some after server (sym now ∙ there)) (list_fits before after step (carried n before was))
+            subst AllFit (same_Some after server (sym now ∙ there)) (list_fits n next Dies before after step (carried n before was))
 
-    delivered_fits : (x : Message) → Carried m → IsDelivered m x → Fits x
-    delivered_fits x carried (FromQueue n server there first) = oldest_fits server.queued x first (carried n server there).queued
-    delivered_fits x carried (AtOnce n server there empty a) = arrival x a
+    delivered_fits : (who : ThreadId) (x : Message) → Carried m → IsDelivered who x cause m → Fits x
+    delivered_fits who x carried d = go d.reaches
+      where
+        go : Reaches d.n d.server who x cause m → Fits x
+        go (FromQueue first r) = oldest_fits d.server.queued x first (carried d.n d.server d.there).queued
+        go (AtOnce empty a waits) = arrival d.n x a
 
-    meant_as_sent : (words : List ℕ) → Carried m → IsMeant m words → is_message_of number words ≡ true → IsAsSent w words
-    meant_as_sent words carried (inl none) is =
+    meant_as_sent : (who : ThreadId) (words : List ℕ) → Carried m → IsMeant who words cause m → is_message_of number words ≡ true → IsAsSent w words
+    meant_as_sent who words carried (inl none) is =
         absurd (false≢true (sym none ∙ (and_parts (slice_index words 0 == reply_message) (slice_index words 1 == number.0) is).0))
-    meant_as_sent words carried (inr (x, delivered, same)) is =
+    meant_as_sent who words carried (inr (x, delivered, same)) is =
         subst (IsAsSent w) (sym same)
-        (as_sent (delivered_fits x carried delivered
+        (as_sent (delivered_fits who x carried delivered
         (and_parts (slice_index (message_words x) 0 == reply_message) (slice_index (message_words x) 1 == number.0) (subst (λ v. is_message_of number v ≡ true) same is)).1))
       where
         as_sent : IsFrom w x → IsAsSent w (message_words x)
@@ -228,12 +233,12 @@ module _ (number : Number) (w : List ℕ) where
       from_forward w held first lends (all_at server.held k held at (carried n server there).held e)
 
   -- once it was accepted, no other message gets its number
-  later_arrival : (m : Machine) → number.0 < m.next_number → Carried m → (x : Message) → Arrives m x → Fits x
-  later_arrival m low carried x (IsSent who words kind first acts calls sends named is) = λ e.
+  later_arrival : (cause : Cause) (m : Machine) → number.0 < m.next_number → Carried m → (n : ℕ) (x : Message) → Arrives n x cause m → Fits x
+  later_arrival cause m low carried n x (IsSent r) = λ e.
       absurd (let same : x.number.0 ≡ number.0 = eqb-true x.number.0 number.0 e in
-      let new : x.number.0 ≡ m.next_number = ap (λ (y : Message). y.number.0) is in omega arith)
-  later_arrival m low carried x (IsForwarded n k server held first there at lends is) =
-      subst Fits (sym is) (forward_fits m carried n k server held first there at lends)
+      let new : x.number.0 ≡ m.next_number = ap (λ (y : Message). y.number.0) r.is in omega arith)
+  later_arrival cause m low carried n x (IsForwarded r) =
+      subst Fits (sym r.is) (forward_fits m carried r.from r.place r.server r.held r.first r.there r.held_there r.lends)
 
   -- no message has it before
   fresh_carried : (m : Machine) → Matched m → number.0 ≡ m.next_number → Carried m
@@ -246,35 +251,36 @@ module _ (number : Number) (w : List ℕ) where
           let same : (get_or (messages_of server) k d).number.0 ≡ number.0 = eqb-true (get_or (messages_of server) k d).number.0 number.0 e in omega arith)
 
 -- in the moment of its send it is the one that is sent
-first_arrival : (number : Number) (m : Machine) (moment : Moment) (a : Accepts number m moment) → Carried number a.words m → (x : Message) → Arrives m x
-    → Fits number a.words x
-first_arrival number m moment a carried x (IsSent who words kind first acts calls sends named is) = λ e.
-    subst (IsFrom a.words) (sym is)
-    (subst (λ v. IsFrom v (new_message (record m { cursor = who }) kind words first)) same
-    (from_new (record m { cursor = who }) kind words first named))
+first_arrival : (number : Number) (cause : Cause) (m : Machine) (moment : Moment) (a : Accepts number m moment) → Carried number a.words m → (n : ℕ) (x : Message)
+    → Arrives n x cause m → Fits number a.words x
+first_arrival number cause m moment a carried n x (IsSent r) = λ e.
+    subst (IsFrom a.words) (sym r.is)
+    (subst (λ v. IsFrom v (new_message (record m { cursor = r.served.who }) r.kind r.words r.first)) same
+    (from_new (record m { cursor = r.served.who }) r.kind r.words r.first r.named))
   where
-    same_who : who ≡ a.served.who
-    same_who = same_Some who a.served.who (sym acts ∙ a.served.by_who)
+    same_who : r.served.who ≡ a.served.who
+    same_who = same_Some r.served.who a.served.who (sym r.served.by_who ∙ a.served.by_who)
 
-    same : words ≡ a.words
-    same = same_Some words a.words (sym calls ∙ (ap (λ v. call_by m v) same_who ∙ a.served.call))
-first_arrival number m moment a carried x (IsForwarded n k server held first there at lends is) =
-    subst (Fits number a.words) (sym is) (forward_fits number a.words m carried n k server held first there at lends)
+    same : r.words ≡ a.words
+    same = same_Some r.words a.words (sym r.served.call ∙ (ap (λ v. call_by m v) same_who ∙ a.served.call))
+first_arrival number cause m moment a carried n x (IsForwarded r) =
+    subst (Fits number a.words) (sym r.is) (forward_fits number a.words m carried r.from r.place r.server r.held r.first r.there r.held_there r.lends)
 
 -- ---- runs
 
 -- what is told in the first moment of a run, and in a later one
-reply_meant : (m : Machine) (cause : Cause) → Matched m → (k : ℕ) (rec : Rec) (who : ThreadId) (words : List ℕ) → slice_get (records_by cause m) k ≡ Some rec
-    → rec.what ≡ Reply who words → IsMeant m words
+pub reply_meant : (m : Machine) (cause : Cause) → Matched m → (k : ℕ) (rec : Rec) (who : ThreadId) (words : List ℕ) → slice_get (records_by cause m) k ≡ Some rec
+    → rec.what ≡ Reply who words → IsMeant who words cause m
 reply_meant m cause h k rec who words there is =
-    subst (IsDelivery m) is (at (records_by cause m) k there (all_served cause m h).deliveries)
+    subst (IsDelivery cause m) is (at (records_by cause m) k there (all_served cause m h).deliveries)
   where
-    at : (xs : List Rec) (k : ℕ) → slice_get xs k ≡ Some rec → All (λ (r : Rec). IsDelivery m r.what) xs → IsDelivery m rec.what
+    at : (xs : List Rec) (k : ℕ) → slice_get xs k ≡ Some rec → All (λ (r : Rec). IsDelivery cause m r.what) xs → IsDelivery cause m rec.what
     at [] k e all = absurd (none-some rec (sym (slice_get_past [] k (omega arith)) ∙ e))
-    at (x ∷ xs) zero e all = subst (λ (r : Rec). IsDelivery m r.what) (same_Some x rec e) (All-head (λ (r : Rec). IsDelivery m r.what) x xs all)
-    at (x ∷ xs) (suc k) e all = at xs k e (All-tail (λ (r : Rec). IsDelivery m r.what) x xs all)
+    at (x ∷ xs) zero e all = subst (λ (r : Rec). IsDelivery cause m r.what) (same_Some x rec e) (All-head (λ (r : Rec). IsDelivery cause m r.what) x xs all)
+    at (x ∷ xs) (suc k) e all = at xs k e (All-tail (λ (r : Rec). IsDelivery cause m r.what) x xs all)
 
-first_reply : (start : Machine) (moment : Moment) (moments : List Moment) (words : List ℕ) → Matched start → RepliesAt words start (moment ∷ moments) 0 → IsMeant start words
+first_reply : (start : Machine) (moment : Moment) (moments : List Moment) (words : List ℕ) → Matched start → (r : RepliesAt words start (moment ∷ moments) 0)
+    → IsMeant r.who words moment.cause start
 unfolding state_at
 first_reply start moment moments words h r =
     reply_meant start moment.cause h r.place r.record_there r.who words
@@ -299,12 +305,12 @@ module _ (number : Number) (words : List ℕ) (is : is_message_of number words �
   unfolding IsRun state_at
   carried_run w start [] h run low carried j r = absurd (none-some r.moment (sym (slice_get_past [] j (omega arith)) ∙ r.there))
   carried_run w start (moment ∷ moments) h run low carried zero r =
-      meant_as_sent number w start (later_arrival number w start low carried) words carried (first_reply start moment moments words h r) is
+      meant_as_sent number w moment.cause start (later_arrival number w moment.cause start low carried) r.who words carried (first_reply start moment moments words h r) is
   carried_run w start (moment ∷ moments) h run low carried (suc j) r =
       let climbs : start.next_number ≤ moment.machine.next_number = run_climbs start (moment ∷ moments) 1 run in
       carried_run w moment.machine moments (subst Matched (sym run.0) (every_cause_keeps moment.cause start h)) run.1 (omega arith)
       (subst (Carried number w) (sym run.0)
-      (server_fits number w start (later_arrival number w start low carried) (caused moment.cause start) carried (all_served moment.cause start h).servers))
+      (server_fits number w moment.cause start (later_arrival number w moment.cause start low carried) (caused moment.cause start) (DiesIn (told_by moment.cause start)) carried (all_served moment.cause start h).servers))
       j (later_reply start moment moments words j r)
 
   sent_run : (start : Machine) (moments : List Moment) → Matched start → IsRun start moments → (i j : ℕ) (at : Moment) → slice_get moments i ≡ Some at
@@ -314,7 +320,7 @@ module _ (number : Number) (words : List ℕ) (is : is_message_of number words �
   sent_run start (moment ∷ moments) h run zero zero at there a le r =
       let new : number.0 ≡ start.next_number = ap (λ (k : Number). k.0) a.taken in
       let carried = fresh_carried number a.words start h new in
-      meant_as_sent number a.words start (first_arrival number start at a carried) words carried (first_reply start moment moments words h r) is
+      meant_as_sent number a.words moment.cause start (first_arrival number moment.cause start at a carried) r.who words carried (first_reply start moment moments words h r) is
   sent_run start (moment ∷ moments) h run zero (suc j) at there a le r =
       let new : number.0 ≡ start.next_number = ap (λ (k : Number). k.0) a.taken in
       let carried = fresh_carried number a.words start h new in
@@ -322,7 +328,7 @@ module _ (number : Number) (words : List ℕ) (is : is_message_of number words �
       (moment_gives start moment run.0).given number (subst (Accepts number start) (sym (same_Some moment at there)) a) in
       carried_run a.words moment.machine moments (subst Matched (sym run.0) (every_cause_keeps moment.cause start h)) run.1 (omega arith)
       (subst (Carried number a.words) (sym run.0)
-      (server_fits number a.words start (first_arrival number start at a carried) (caused moment.cause start) carried (all_served moment.cause start h).servers))
+      (server_fits number a.words moment.cause start (first_arrival number moment.cause start at a carried) (caused moment.cause start) (DiesIn (told_by moment.cause start)) carried (all_served moment.cause start h).servers))
       j (later_reply start moment moments words j r)
   sent_run start (moment ∷ moments) h run (suc i) zero at there a le r = absurd (omega arith)
   sent_run start (moment ∷ moments) h run (suc i) (suc j) at there a le r =

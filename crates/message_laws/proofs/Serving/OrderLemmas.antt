@@ -8,13 +8,14 @@ use Rattle.std.proofs.lemmas.List.Elements.{All-filter, All-head, All-tail}
 use Rattle.std.proofs.lemmas.Option.{none-some, same_Some}
 use Rattle.xk_base.specs.declared.events.Event.{Event}
 use Rattle.xk_base.specs.declared.ids.Number.{Number}
+use Rattle.xk_base.specs.declared.ids.Pid.{Pid}
 use Rattle.xk_base.specs.declared.messages.Message.{Message}
 use Rattle.machine_history.specs.HistoryMoments.{moments_of}
 use Rattle.machine_history.proofs.Histories.MomentLemmas.{history_is_run}
 use Rattle.machine_model.specs.Messaging.MessageCounts.{count_in}
 use Rattle.machine_model.specs.Messaging.Messages.{is_of_number, oldest}
 use Rattle.machine_model.specs.Runs.Matched.{Matched}
-use Rattle.machine_model.specs.Runs.Moments.{IsRun, Moment, caused, state_at}
+use Rattle.machine_model.specs.Runs.Moments.{Cause, IsRun, Moment, caused, state_at}
 use Rattle.machine_model.specs.State.Machine.{Machine, Server}
 use Rattle.machine_model.proofs.Matching.CountLemmas.{count_in-append, none_pass, one_if}
 use Rattle.machine_laws.proofs.Messaging.AnyServerLemmas.{queued_apart}
@@ -22,7 +23,7 @@ use Rattle.machine_laws.proofs.Messaging.ListedLemmas.{not_counted}
 use Rattle.machine_laws.proofs.Stepping.EveryStepLemmas.{every_cause_keeps}
 use Rattle.message_laws.specs.Following.{Holds, Lacks, Queues, keeping, keeping_by}
 use Rattle.message_laws.specs.Order.{IsNotNext, OrderKept, StandsBefore, StandsBeforeAt}
-use Rattle.message_laws.specs.Serving.{Ends, Founded, LetsGo, ListStep, Lists, LosesSender, Queues as QueuesOne, Receives, ServerStep, Stays, Takes}
+use Rattle.message_laws.specs.Serving.{DiesIn, Ends, Forwards, Founded, ListStep, Lists, LosesSender, Queues as QueuesOne, Receives, Returns, ServerStep, Stays, Takes, told_by}
 use Rattle.message_laws.proofs.Serving.ServedStepLemmas.{all_served}
 
 -- a server that queues the message has it in its queue
@@ -146,16 +147,17 @@ module _ (first second : Number) (other : first ≢ second) where
       }
       go false e = absurd (false≢true (sym none ∙ (sym (ap (list_any (is_of_number first)) (split false e)) ∙ still)))
 
-  list_ahead : (m : Machine) (before after : Server) → ListStep m before after → IsAlone before.queued → IsAhead before.queued
+  list_ahead : (n : ℕ) (cause : Cause) (m next : Machine) (Dies : Pid → Type 0) (before after : Server) → ListStep n cause m next Dies before after → IsAlone before.queued → IsAhead before.queued
       → list_any (is_of_number first) after.queued ≡ true → IsAhead after.queued
-  list_ahead m before after (QueuesOne x a is) alone ahead still =
+  list_ahead n cause m next Dies before after (QueuesOne x a is) alone ahead still =
       subst (λ (s : Server). IsAhead s.queued) (sym is) (more_ahead before.queued x ahead)
-  list_ahead m before after (Receives x a empty is) alone ahead still = subst (λ (s : Server). IsAhead s.queued) (sym is) ahead
-  list_ahead m before after (Takes x oldest_is is) alone ahead still =
+  list_ahead n cause m next Dies before after (Receives x who a empty own waits is) alone ahead still = subst (λ (s : Server). IsAhead s.queued) (sym is) ahead
+  list_ahead n cause m next Dies before after (Takes x who oldest_is own r is) alone ahead still =
       subst (λ (s : Server). IsAhead s.queued) (sym is)
       (taken_ahead before.queued alone ahead (sym (ap (λ (s : Server). list_any (is_of_number first) s.queued) is) ∙ still))
-  list_ahead m before after (LetsGo k is) alone ahead still = subst (λ (s : Server). IsAhead s.queued) (sym is) ahead
-  list_ahead m before after (LosesSender pid is) alone ahead still =
+  list_ahead n cause m next Dies before after (Returns k r is) alone ahead still = subst (λ (s : Server). IsAhead s.queued) (sym is) ahead
+  list_ahead n cause m next Dies before after (Forwards to x r from kept is) alone ahead still = subst (λ (s : Server). IsAhead s.queued) (sym is) ahead
+  list_ahead n cause m next Dies before after (LosesSender pid dies is) alone ahead still =
       subst (λ (s : Server). IsAhead s.queued) (sym is)
       (left_ahead _ before.queued alone ahead (sym (ap (λ (s : Server). list_any (is_of_number first) s.queued) is) ∙ still))
 
@@ -181,14 +183,14 @@ module _ (first second : Number) (other : first ≢ second) where
     there : m.servers n ≡ Some server
     ahead : IsAhead server.queued
 
-  step_ahead : (m next : Machine) (n : ℕ) → Matched m → ServerStep m next n → IsAheadAt n m → keeping first (next.servers n) ≡ Queues → IsAheadAt n next
-  step_ahead m next n h (Stays e) a queued = record { server = a.server; there = e ∙ a.there; ahead = a.ahead }
-  step_ahead m next n h (Founded server none now empty held) a queued = absurd (none-some a.server (sym none ∙ a.there))
-  step_ahead m next n h (Ends e) a queued = absurd (let q : Lacks ≡ Queues = sym (ap (keeping first) e) ∙ queued in cc)
-  step_ahead m next n h (Lists before after was now step) a queued = record {
+  step_ahead : (cause : Cause) (m next : Machine) (Dies : Pid → Type 0) (n : ℕ) → Matched m → ServerStep n cause m next Dies → IsAheadAt n m → keeping first (next.servers n) ≡ Queues → IsAheadAt n next
+  step_ahead cause m next Dies n h (Stays e) a queued = record { server = a.server; there = e ∙ a.there; ahead = a.ahead }
+  step_ahead cause m next Dies n h (Founded server none now empty held) a queued = absurd (none-some a.server (sym none ∙ a.there))
+  step_ahead cause m next Dies n h (Ends server there e why) a queued = absurd (let q : Lacks ≡ Queues = sym (ap (keeping first) e) ∙ queued in cc)
+  step_ahead cause m next Dies n h (Lists before after was now step) a queued = record {
     server = after;
     there = now;
-    ahead = list_ahead m before after step
+    ahead = list_ahead n cause m next Dies before after step
         (queued_apart m.servers h.body.servers.numbers n before was first)
         (subst (λ (s : Server). IsAhead s.queued) (same_Some a.server before (sym a.there ∙ was)) a.ahead)
         (queued_listed first after (sym (ap (keeping first) now) ∙ queued));
@@ -206,7 +208,7 @@ module _ (first second : Number) (other : first ≢ second) where
   ahead_run n start (moment ∷ moments) h run a (suc j) queued =
       ahead_run n moment.machine moments (subst Matched (sym run.0) (every_cause_keeps moment.cause start h)) run.1
       (subst (IsAheadAt n) (sym run.0)
-      (step_ahead start (caused moment.cause start) n h ((all_served moment.cause start h).servers n) a
+      (step_ahead moment.cause start (caused moment.cause start) (DiesIn (told_by moment.cause start)) n h ((all_served moment.cause start h).servers n) a
       (ap (λ (x : Machine). keeping first (x.servers n)) (sym run.0) ∙ queued 1 (omega arith))))
       j (λ k le. queued (suc k) (omega arith))
 

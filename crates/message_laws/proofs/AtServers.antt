@@ -1,0 +1,5 @@
+pub mod EndLemmas
+pub mod GivenUpLemmas
+pub mod LandLemmas
+pub mod PlaceLemmas
+pub mod SinceLemmas
