@@ -6,23 +6,17 @@ time is that of the whole program with its transcript in a file, the best of fiv
 BESIDE=PROGRAM, the times of that program stand in one more column.
 """
 
-import pathlib
 import tempfile
 
 import measure
-from steps import ZERO, addi, image, jal, processor
+from steps import PAGE, ZERO, addi, image, jal, lui, put_files
 
 ECALL = 0x73
 A0, A1, A2, A3, A4 = 10, 11, 12, 13, 14
 YIELD, MAP_MEMORY, UNMAP_MEMORY = 3, 2, 19
-CONSOLE, PAGE, READ_AND_WRITE = 0xF000_0000, 0x1000, 6
+CONSOLE, READ_AND_WRITE = 0xF000_0000, 6
 MOST = 32
 LIMIT = 4_000_000_000
-
-
-def lui(rd, value):
-    return value & 0xFFFF_F000 | rd << 7 | 0x37
-
 
 YIELDS = [addi(A0, ZERO, YIELD), ECALL, jal(ZERO, -8)]
 # Maps the console at any place, and unmaps it there.
@@ -42,10 +36,8 @@ CONSOLES = [
 
 def seconds(program, code, processes, events):
     """The best time of `trace` with these events."""
-    with tempfile.TemporaryDirectory() as name:
-        folder = pathlib.Path(name)
-        (folder / "image").write_bytes(image(code, processes))
-        (folder / "events").write_bytes(events)
+    with tempfile.TemporaryDirectory() as folder:
+        put_files(folder, image(code, processes), events)
         return measure.seconds([program, "trace", "image", "events", str(LIMIT)], folder)
 
 
@@ -66,10 +58,7 @@ def row(programs, text, code, processes, before, event, times):
 
 def main():
     programs = measure.programs()
-    print(f"One core of {processor()}:")
-    print()
-    print(f"| What | Microseconds each | Million a second |{measure.more_columns(programs)}")
-    print("|---|---|---|" + "---|" * (len(programs) - 1))
+    measure.begin_table(["What", "Microseconds each", "Million a second"], programs)
 
     def ticks(n):
         return b"tick 1\n" * n

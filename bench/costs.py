@@ -18,8 +18,8 @@ from dataclasses import dataclass
 
 import measure
 from calls import A0, A1, A2, A3, A4, ECALL, MOST, kills
-from pages import lui, over_pages
-from steps import COUNT, ENTRY, PAGE, PRODUCT, RAM_BYTES, ZERO, addi, bne, image, jal, processor
+from pages import over_pages
+from steps import COUNT, ENTRY, PAGE, PRODUCT, RAM_BYTES, ZERO, addi, bne, image, jal, lui
 
 sys.path.insert(0, str(measure.TOP / "tools"))
 
@@ -298,9 +298,7 @@ def main():
     if unknown:
         words.error(f"no group {', '.join(sorted(unknown))}")
     programs = measure.programs()
-    print(f"One core of {processor()}:\n")
-    print(f"| What | {'Instructions' if given.count else 'Each'} |{measure.more_columns(programs)}")
-    print("|---|---|" + "---|" * (len(programs) - 1))
+    measure.begin_table(["What", "Instructions" if given.count else "Each"], programs)
     with tempfile.TemporaryDirectory() as folder:
         files = Files(folder)
         for row in (row for name in given.groups or GROUPS for row in GROUPS[name](files)):

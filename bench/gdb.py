@@ -15,20 +15,20 @@ import subprocess
 import tempfile
 import time
 
+import measure
 import steps
 
-GDB = steps.TOP / "tools" / "xous-gdb"
+GDB = measure.TOP / "tools" / "xous-gdb"
 PROGRAM_BYTES = 1 << 20
 RAM_BYTES = 4 << 20
 LOOPS = 5_000_000  # of two steps each
-LUI = 0x37
 RUNS = 3
 
 
 def code():
     """A loop, then a store to the stack and a jump to itself, in a section of 1 MiB."""
     words = [
-        (LOOPS + 0x800) >> 12 << 12 | steps.COUNT << 7 | LUI,
+        steps.lui(steps.COUNT, LOOPS + 0x800),
         steps.addi(steps.COUNT, steps.COUNT, LOOPS - ((LOOPS + 0x800) >> 12 << 12)),
         steps.addi(steps.COUNT, steps.COUNT, -1),
         steps.bne(steps.COUNT, steps.ZERO, -4),
@@ -116,14 +116,13 @@ def rows(image, event_file):
 
 def main():
     with tempfile.TemporaryDirectory() as folder:
-        image, event_file = pathlib.Path(folder) / "image", pathlib.Path(folder) / "events"
-        image.write_bytes(steps.image(code(), ram_bytes=RAM_BYTES))
-        event_file.write_bytes(f"tick {STORE_STEP + 1000}\n".encode())
+        image, event_file = pathlib.Path(folder, "image"), pathlib.Path(folder, "events")
+        steps.put_files(folder, steps.image(code(), ram_bytes=RAM_BYTES), b"tick %d\n" % (STORE_STEP + 1000))
         best = {}
         for _ in range(RUNS):
             for name, took in rows(image, event_file):
                 best[name] = tuple(map(min, took, best.get(name, took)))
-    print(f"One core of {steps.processor()}:\n\n| What | Seconds | Processor seconds |\n|---|---|---|")
+    measure.begin_table(["What", "Seconds", "Processor seconds"])
     for name, (took, processor) in best.items():
         print(f"| {name} | {took:.3f} | {processor:.2f} |")
 

@@ -17,8 +17,8 @@ import subprocess
 import tempfile
 import time
 
-from steps import COUNT, ENTRY, LAUNCHER, PAGE, PRODUCT, RUNS, WRITABLE, ZERO, ZEROS, ZERO_FILLED
-from steps import addi, bne, image, jal, lw, processor, sw
+import measure
+from steps import COUNT, PAGE, PRODUCT, ZERO, ZEROS, addi, bne, image, jal, lui, lw, put_files, sw
 
 STEPS = 2_000_000
 LOOP_PAGES = 64
@@ -28,10 +28,6 @@ TABLE_FRAMES = 21
 FREE_FRAMES = 1  # through which pages are exchanged
 SPLITS = (ALL_PAGES, 64, 32, 8, 2)  # frames for pages; the others have slots
 AT, STRIDE = 10, 11
-
-
-def lui(rd, value):
-    return value >> 12 << 12 | rd << 7 | 0x37
 
 
 def add(rd, rs1, rs2):
@@ -58,19 +54,18 @@ CODE = over_pages(addi(COUNT, ZERO, LOOP_PAGES))
 class Run:
     """A folder with the image of a split and an event file, in which the program is run."""
 
-    def __init__(self, folder, frames, store):
-        self.folder = pathlib.Path(folder)
+    def __init__(self, program, folder, frames, store):
+        self.program, self.folder = program, folder
         ram_bytes = PAGE * (TABLE_FRAMES + frames + FREE_FRAMES)
-        (self.folder / "image").write_bytes(image(CODE, zero_pages=LOOP_PAGES, ram_bytes=ram_bytes))
-        (self.folder / "events").write_bytes(b"tick 4294967295\n")
-        (self.folder / "no_events").write_bytes(b"")
+        put_files(folder, image(CODE, zero_pages=LOOP_PAGES, ram_bytes=ram_bytes), b"tick 4294967295\n")
+        pathlib.Path(folder, "no_events").write_bytes(b"")
         self.words = [str(STEPS), str(ALL_PAGES - frames)] + ["store"] * store
 
     def play(self, command, events):
         """What the program wrote, its seconds, and the bytes that it read and wrote."""
         start = time.perf_counter()
         program = subprocess.Popen(
-            [LAUNCHER, command, "image", events] + self.words,
+            [self.program, command, "image", events] + self.words,
             cwd=self.folder,
             stdout=subprocess.PIPE,
             stderr=subprocess.PIPE,
@@ -92,18 +87,15 @@ class Run:
 
 
 def main():
-    # The launcher builds the program where it is out of date; with no words it does nothing else.
-    subprocess.run([LAUNCHER], stderr=subprocess.DEVNULL, check=False)
-    print(f"One core of {processor()}, {STEPS:,} steps over {LOOP_PAGES} pages:")
-    print()
-    print("| Frames for pages | Slots | Store | Seconds | Million steps a second | Pages in | Pages out |")
-    print("|---|---|---|---|---|---|---|")
+    program = measure.program()
+    columns = ["Frames for pages", "Slots", "Store", "Seconds", "Million steps a second", "Pages in", "Pages out"]
+    measure.begin_table(columns, what=f", {STEPS:,} steps over {LOOP_PAGES} pages")
     tables = set()
     for frames in SPLITS:
         for store in (False, True):
             with tempfile.TemporaryDirectory() as folder:
-                run = Run(folder, frames, store)
-                took = min(run.play("trace", "events")[1] for _ in range(RUNS))
+                run = Run(program, folder, frames, store)
+                took = min(run.play("trace", "events")[1] for _ in range(measure.RUNS))
                 came_in, went_out = (f"{n:,}" for n in run.moved()) if store else ("", "")
                 tables.add(run.play("ledger", "events")[0])
             kind = "a file" if store else "memory"

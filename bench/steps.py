@@ -10,22 +10,21 @@ in one more column.
 
 import pathlib
 import struct
-import subprocess
+import sys
 import tempfile
-import time
 
 import measure
 
-TOP = pathlib.Path(__file__).resolve().parent.parent
-LAUNCHER = TOP / "xousim"
+sys.path.insert(0, str(measure.TOP / "tools"))
+
+from xous_image.image import PAGE, RAM_START, WRITABLE, ZERO_FILLED, EXECUTABLE, tag  # noqa: E402: behind the path
+
 STEPS = 10_000_000
 EVENTS = 1_000_000
-RUNS = 5
-PAGE = 4096
+ENDED = (0, 7)  # the statuses of a run that is done, and of one that met its limit
 RAM_BYTES = 0x400_0000
 ENTRY = 0x1_0000
 ZEROS = 0x2_0000
-WRITABLE, ZERO_FILLED, EXECUTABLE = 1, 2, 4
 ZERO, SP, COUNT, FACTOR, PRODUCT = 0, 2, 5, 6, 7
 
 
@@ -60,6 +59,10 @@ def bne(rs1, rs2, offset):
     return high << 25 | rs2 << 20 | rs1 << 15 | 1 << 12 | low << 7 | 0x63
 
 
+def lui(rd, value):
+    return value & 0xFFFF_F000 | rd << 7 | 0x37
+
+
 def jal(rd, offset):
     bits = offset & 0x1F_FFFF
     high = (bits >> 20 & 1) << 19 | (bits >> 1 & 0x3FF) << 9 | (bits >> 11 & 1) << 8
@@ -83,68 +86,42 @@ LOOPS = [
 ]
 
 
-def crc_x25(data):
-    crc = 0xFFFF
-    for byte in data:
-        crc ^= byte
-        for _ in range(8):
-            crc = crc >> 1 ^ 0x8408 if crc & 1 else crc >> 1
-    return crc ^ 0xFFFF
-
-
-def tag(name, *words):
-    contents = struct.pack(f"<{len(words)}I", *words)
-    return name + struct.pack("<HH", crc_x25(contents), len(words)) + contents
+def packed(words):
+    return struct.pack(f"<{len(words)}I", *words)
 
 
 def image(code, processes=1, zero_pages=0, ram_bytes=RAM_BYTES):
-    """So many processes, each with this code in an executable section and a section of zeros."""
+    """So many processes, whose code stands once in the file; each has it in an executable section, and a section of zeros."""
     sections = 2 if zero_pages else 1
     row_bytes = 28 + processes * (8 + 8 + 8 * sections)
     load = row_bytes
     name = int.from_bytes(b"sram", "little")
-    row = tag(b"XArg", row_bytes // 4, 1, 0x4000_0000, ram_bytes, name)
+    row = tag(b"XArg", packed([row_bytes // 4, 1, RAM_START, ram_bytes, name]))
     words = [load, ENTRY, ENTRY, 4 * len(code) | EXECUTABLE << 24]
     if zero_pages:
         words += [ZEROS, zero_pages * PAGE | (WRITABLE | ZERO_FILLED) << 24]
     for _ in range(processes):
-        row += tag(b"IniE", *words)
-    return row + struct.pack(f"<{len(code)}I", *code)
+        row += tag(b"IniE", packed(words))
+    return row + packed(code)
+
+
+def put_files(folder, image_bytes, events):
+    """Writes what the program is run on."""
+    pathlib.Path(folder, "image").write_bytes(image_bytes)
+    pathlib.Path(folder, "events").write_bytes(events)
 
 
 def seconds(program, image_bytes, events, last_line):
-    """The best time of a run that ends with this line."""
-    best = None
+    """The best time of a run that writes this line alone."""
     with tempfile.TemporaryDirectory() as folder:
-        image_path = pathlib.Path(folder) / "image"
-        events_path = pathlib.Path(folder) / "events"
-        image_path.write_bytes(image_bytes)
-        events_path.write_bytes(events)
-        for _ in range(RUNS):
-            start = time.perf_counter()
-            run = subprocess.run(
-                [program, "trace", image_path, events_path], capture_output=True, check=False
-            )
-            took = time.perf_counter() - start
-            if run.stdout != last_line.encode() + b"\n":
-                raise SystemExit(f"the run failed: {run.stdout[-200:]!r} {run.stderr!r}")
-            best = took if best is None else min(best, took)
-    return best
-
-
-def processor():
-    for line in pathlib.Path("/proc/cpuinfo").read_text().splitlines():
-        if line.startswith("model name"):
-            return line.split(":", 1)[1].strip()
-    return "unknown processor"
+        put_files(folder, image_bytes, events)
+        words = [program, "trace", "image", "events"]
+        return measure.seconds(words, folder, ENDED, wanted=last_line.encode() + b"\n")
 
 
 def main():
     programs = measure.programs()
-    print(f"One core of {processor()}:")
-    print()
-    print(f"| Run | Seconds | Million a second |{measure.more_columns(programs)}")
-    print("|---|---|---|" + "---|" * (len(programs) - 1))
+    measure.begin_table(["Run", "Seconds", "Million a second"], programs)
 
     def row(text, image_bytes, events, last_line, count=None, digits=0):
         took, *others = [seconds(program, image_bytes, events, last_line) for program in programs]

@@ -1,22 +1,11 @@
 """The copies of the examples in the program's tests, the must-fail edits, private fields, and `./xousim`, which starts the program."""
 
-import importlib.machinery
-import importlib.util
 import os
 import pathlib
 import shutil
 import subprocess
 
-TOOLS = pathlib.Path(__file__).resolve().parent.parent
-
-
-def load(name):
-    """A tool that is one file, as a module."""
-    module_name = name.replace("-", "_")
-    loader = importlib.machinery.SourceFileLoader(module_name, str(TOOLS / name))
-    module = importlib.util.module_from_spec(importlib.util.spec_from_loader(module_name, loader))
-    loader.exec_module(module)
-    return module
+from .loading import TOOLS, load
 
 
 class Checkout:
@@ -121,14 +110,24 @@ def is_applied(try_edit, crate, text):
 
 
 def checks_of_edits(folder):
-    try_edit, crate = load("check-edits").try_edit, pathlib.Path(folder, "edited")
-    for name in ("src/lib.rt", "specs/Lib.antt"):
+    checker, crate = load("check-edits"), pathlib.Path(folder, "edited")
+    for name in ("src/lib.rt", "specs/Lib.antt", "must-fail/first.edit"):
         (crate / name).parent.mkdir(parents=True)
         (crate / name).write_text("one three three\n")
-    yield is_applied(try_edit, crate, EDIT), "an edit"
-    yield is_applied(try_edit, crate, EDIT + "old: two three\nnew:\n"), "an edit of what it put in"
+    yield is_applied(checker.try_edit, crate, EDIT), "an edit"
+    yield is_applied(checker.try_edit, crate, EDIT + "old: two three\nnew:\n"), "an edit of what it put in"
     for name, text in BAD_EDITS.items():
-        yield not is_applied(try_edit, crate, text), f"an edit of {name}"
+        yield not is_applied(checker.try_edit, crate, text), f"an edit of {name}"
+    yield from checks_of_same_edits(checker.wrong_edits, crate)
+
+
+def checks_of_same_edits(wrong_edits, crate):
+    """Two edits that make the same code, and two that don't."""
+    (crate / "must-fail/first.edit").write_text(EDIT)
+    for text, is_same in ((EDIT.replace("two", "five"), False), (EDIT + "old: two\nnew:  two\n", True)):
+        (crate / "must-fail/second.edit").write_text(text)
+        told = ["edited/must-fail/second.edit: it makes the same code as first.edit"] * is_same
+        yield list(wrong_edits(crate)) == told, f"a second edit {text!r}"
 
 
 def checks_of_fields():

@@ -20,7 +20,7 @@ from dataclasses import dataclass, field
 
 from xousview import decode
 
-from . import events, state
+from . import events, found, state
 
 TIMER_INTERRUPT = 20
 MOST_STEPS = state.MOST_STEPS
@@ -85,6 +85,11 @@ class Search:
             raise RuntimeError(f"xousim {command}: {ran.stderr.decode().strip()}")
         return ran.stdout
 
+    def played(self, path, once=()):
+        """The node behind these events from the image's start, without its state."""
+        console = self.run("run", self.image, path, MOST_STEPS, may_be_empty=True)
+        return Node(path, 0, console, once)
+
     def visited(self, node):
         """The node with its state, which stands in a file, too."""
         data = self.run("suspend", self.image, node.path, MOST_STEPS)
@@ -148,7 +153,7 @@ class Search:
             return Search(self.program, self.image, self.asked, self.folder, counts=True).search_nodes()
 
     def search_nodes(self):
-        first = self.visited(Node(list(self.asked.first), 0, b"", self.asked.once))
+        first = self.visited(self.played(list(self.asked.first), self.asked.once))
         with ThreadPoolExecutor(WORKERS) as pool:
             level = [first] if self.meet(first) else []
             while level:
@@ -163,19 +168,12 @@ class Search:
     # What is told.
 
     def told(self):
-        """The lines of what was found: endings that look alike are one, with the shortest order."""
+        """What was found, where endings that look alike are one, and of each a node with the shortest order."""
         alike = {}
         for node in self.endings:
             alike.setdefault(seen(node), []).append(node)
-        how = "whole" if self.whole else "cut"
-        lines = [f"states {len(self.nodes)} slices {self.slices} {how}"]
-        for number, (text, nodes) in enumerate(alike.items(), 1):
-            lines.append(f"ending {number}: {text}; {counted(len(nodes), 'node')}; {counted(nodes[0].slices, 'slice')}")
-        return lines + [counted(len(alike), "ending")], [nodes[0] for nodes in alike.values()]
-
-
-def counted(count, word):
-    return f"{count} {word}{'s' * (count != 1)}"
+        endings = tuple(found.Ending(text, len(nodes), nodes[0].slices) for text, nodes in alike.items())
+        return found.Found(len(self.nodes), self.slices, self.whole, endings), [nodes[0] for nodes in alike.values()]
 
 
 def seen(node):
@@ -184,9 +182,14 @@ def seen(node):
     parts = [f"console {node.console.hex() or 'empty'}"]
     for place, process in enumerate(machine.processes):
         pid = place + state.FIRST_PID
-        waits = [wait_of(machine, thread) for who, thread in sorted(machine.threads.items()) if who[0] == pid and who[1] > 1]
+        waits = [wait_of(machine, thread) for who, thread in sorted(machine.threads.items()) if who[0] == pid and is_busy(thread)]
         parts.append(f"{pid} waits: {', '.join(waits)}" if process.alive else f"{pid} gone")
     return "; ".join(parts)
+
+
+def is_busy(thread):
+    """It isn't an interrupt thread that runs no handler."""
+    return thread.state != state.IDLE
 
 
 def wait_of(machine, thread):

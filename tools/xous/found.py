@@ -1,0 +1,91 @@
+"""What a search of orders tells, as its lines have it (docs/orders.md): read, spelled, and compared with what another search told."""
+
+import re
+from collections import Counter
+from dataclasses import dataclass
+
+HEAD = re.compile(r"states (\d+) slices (\d+) (whole|cut)").fullmatch
+ENDING = re.compile(r"ending (\d+): (console .*); (\d+ nodes?); (\d+ slices?)").fullmatch
+GONE = re.compile(r"(\d+) gone").fullmatch
+
+
+def counted(count, word):
+    return f"{count} {word}{'s' * (count != 1)}"
+
+
+def number_of(text, word):
+    """The number of a counted word."""
+    number = int(text.split(" ")[0])
+    if text != counted(number, word):
+        raise ValueError(f"{text!r} isn't {counted(number, word)!r}")
+    return number
+
+
+@dataclass(frozen=True)
+class Ending:
+    """What is seen of an ending, of how many nodes that is seen, and how many slices the shortest order to one of them has."""
+
+    seen: str
+    nodes: int
+    slices: int
+
+    @property
+    def console(self):
+        text = self.seen.split("; ")[0].removeprefix("console ")
+        return b"" if text == "empty" else bytes.fromhex(text)
+
+    @property
+    def gone(self):
+        """The pids of the processes that are gone."""
+        return {int(match[1]) for match in map(GONE, self.seen.split("; ")) if match}
+
+
+@dataclass(frozen=True)
+class Found:
+    states: int
+    slices: int
+    is_whole: bool
+    endings: tuple
+
+    def lines(self):
+        told = [f"states {self.states} slices {self.slices} {'whole' if self.is_whole else 'cut'}"]
+        for number, ending in enumerate(self.endings, 1):
+            told.append(f"ending {number}: {ending.seen}; {counted(ending.nodes, 'node')}; {counted(ending.slices, 'slice')}")
+        return [*told, counted(len(self.endings), "ending")]
+
+
+def ending_of(number, line):
+    match = ENDING(line)
+    if not match or match[1] != str(number):
+        raise ValueError(f"no ending {number}: {line!r}")
+    return Ending(match[2], number_of(match[3], "node"), number_of(match[4], "slice"))
+
+
+def read(lines):
+    """What these lines tell; ValueError where they have another form, or tell one ending twice."""
+    if len(lines) < 2:
+        raise ValueError(f"{len(lines)} lines")
+    head = HEAD(lines[0])
+    if not head:
+        raise ValueError(f"no first line: {lines[0]!r}")
+    endings = tuple(ending_of(number, line) for number, line in enumerate(lines[1:-1], 1))
+    if number_of(lines[-1], "ending") != len(endings):
+        raise ValueError(f"the last line doesn't count the endings: {lines[-1]!r}")
+    often = Counter(ending.seen for ending in endings).most_common(1)
+    if often and often[0][1] > 1:
+        raise ValueError(f"an ending is told twice: {often[0][0]!r}")
+    return Found(int(head[1]), int(head[2]), head[3] == "whole", endings)
+
+
+def differences(wanted, found):
+    """In what two searches differ, as texts; in which order endings are told doesn't matter."""
+    for name in ("states", "slices", "is_whole"):
+        pair = getattr(wanted, name), getattr(found, name)
+        if pair[0] != pair[1]:
+            yield f"{name}: {pair[1]} in place of {pair[0]}"
+    mine, theirs = ({ending.seen: ending for ending in told.endings} for told in (wanted, found))
+    yield from (f"no ending {seen!r}" for seen in mine if seen not in theirs)
+    yield from (f"an ending that isn't one: {seen!r}" for seen in theirs if seen not in mine)
+    for seen in mine:
+        if seen in theirs and mine[seen] != theirs[seen]:
+            yield f"{theirs[seen]} in place of {mine[seen]}"
