@@ -1,17 +1,16 @@
 -- What is written of two histories that tell the same outside.
-use Rattle.std.proofs.Common.{◌≡◌, ℕ, Bool, true, false, List, ◌++◌, Option, Some, None, refl, sym, ap, ◌∙◌}
+use Rattle.std.proofs.Common.{◌≡◌, ℕ, ◌++◌, Option, Some, None, refl, sym, ap, ◌∙◌}
 use Rattle.std.specs.Prelude.{is_some, not, if◌then◌else◌}
 use Rattle.std.specs.List.{flat_map}
 use Rattle.std.specs.Option.{option_map}
 use Rattle.xk_base.specs.declared.ids.Place.{Place}
 use Rattle.event_text.specs.EventFile.{input_of}
-use Rattle.ledger_model.specs.Ledger.{Bytes, Console, Contents, Ledger, Orphan, Page, PageLoan, has_bytes, loan_of}
+use Rattle.ledger_model.specs.Ledger.{Bytes, Console, Contents, Ledger, Orphan, Page, has_bytes, loan_of}
 use Rattle.ledger_model.specs.Listings.{home_places, orphan_places}
 use Rattle.ledger_model.specs.Loans.{bare, bare_contents, bare_orphan, bare_page}
 use Rattle.ledger_model.specs.Places.{first_place, listed_places}
-use Rattle.ledger_model.specs.Reach.{FreePlace, HolderPlace, Role, holder_role, home_or, is_held_at, lender_of, lent_role, orphan_or_holder, role_at}
+use Rattle.ledger_model.specs.Reach.{Role, holder_role, home_or, is_held_at, lender_of, lent_role, orphan_or_holder, role_at}
 use Rattle.vm_memory.specs.Pages.Here.{here_at, here_of, info_of_loan}
-use Rattle.vm_memory.specs.declared.memory.Here.{Here}
 use Rattle.vm_memory.specs.declared.memory.Here.TheVariants.{Own}
 use Rattle.machine_model.specs.State.Machine.{Machine}
 use Rattle.machine_history.specs.History.{history}
@@ -20,7 +19,7 @@ use Rattle.inside_laws.specs.TwoInsides.{TellTheSameOutside}
 use Rattle.inside_laws.proofs.Running.HistoryLemmas.{histories_keep}
 use Rattle.xk_kernel.specs.Start.{start}
 use Rattle.xk_kernel.proofs.Starting.FirstLawfulLemmas.{start_of_plan_matched}
-use Rattle.event_player.specs.History.{History, end_of, run_of, with_ending}
+use Rattle.event_player.specs.History.{end_of, run_of}
 use Rattle.event_player.specs.Table.{orphan_line, orphans_text, page_line, pages_text, table_of}
 use Rattle.event_player.specs.Telling.{closing, last_line, output, told}
 use Rattle.event_player.specs.declared.ending.Ending.{Ending}

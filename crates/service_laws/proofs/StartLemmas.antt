@@ -1,5 +1,5 @@
 -- Two files that differ in the pages of a group alone make starts that are the same but for the group's inside.
-use Rattle.std.proofs.Common.{◌≡◌, ℕ, ◌+◌, ◌<◌, Bool, true, false, List, map, Option, Some, None, refl, sym, ap, ◌∙◌, subst}
+use Rattle.std.proofs.Common.{◌≡◌, ℕ, ◌+◌, Bool, true, false, List, map, Option, Some, None, refl, sym, ap, ◌∙◌, subst}
 use Rattle.std.specs.Prelude.{nat_lt, slice_index, if◌then◌else◌}
 use Rattle.std.specs.List.{range_with_len}
 use Rattle.std.specs.Option.{option_and_then, option_map}
@@ -15,7 +15,7 @@ use Rattle.ledger_model.specs.Ledger.{Bytes, Homed, Ledger, Page, PageName, cont
 use Rattle.ledger_model.specs.Loans.{bare, bare_page}
 use Rattle.vm_memory.specs.FirstLedger.{first_ledger, first_page, page_bytes, planned_page, process_of}
 use Rattle.integrity_laws.proofs.ReachedPageLemmas.{AtHolder, AtHome, AtOrphan, ReachedAs, reached_as}
-use Rattle.inside_laws.specs.Inside.{Group, IsSeenByOther, SameButInside, outside}
+use Rattle.inside_laws.specs.Inside.{Group, IsSeenByOther, outside}
 use Rattle.xk_kernel.specs.Start.{start}
 use Rattle.xk_kernel.proofs.Starting.FirstLedgerLemmas.{first_unlent}
 use Rattle.service_laws.specs.Exchanged.{DifferInGroup, FillAlike, StartsAreAlike}
