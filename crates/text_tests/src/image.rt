@@ -273,7 +273,7 @@ fn one_process_is_written(rt: HostRuntime) -> Result<(), Fail> {
     let mut procs = Row::new(rt.alloc());
     procs.push(process_with(rt.alloc(), 52, &[CODE])?)?;
     let args = args_of(13, procs, Row::new(rt.alloc()));
-    expect(&rt, writable(&args));
+    assert!(rt; writable(&args));
     let row = write_args(rt.alloc(), &args)?;
     expect_bytes(&rt, row.as_slice(), &ONE_PROCESS);
     Ok(())
@@ -301,7 +301,7 @@ fn largest_row_is_read_back(rt: HostRuntime) -> Result<(), Fail> {
     }
     // 7 for the header, 2 + 2 + 64 for each process, 2 for the tag of names and 4 for each name
     let args = args_of(2313, procs, names);
-    expect(&rt, writable(&args));
+    assert!(rt; writable(&args));
     let row = write_args(rt.alloc(), &args)?;
     expect(&rt, row.as_slice().len() == 9252);
     let again = read_args(rt.alloc(), row.as_slice())?;
