@@ -1,0 +1,3 @@
+pub mod EdgeLemmas
+mod ChoiceLemmas
+pub mod MoveLemmas
