@@ -303,7 +303,7 @@ fn largest_row_is_read_back(rt: HostRuntime) -> Result<(), Fail> {
     let args = args_of(2313, procs, names);
     assert!(rt; writable(&args));
     let row = write_args(rt.alloc(), &args)?;
-    expect(&rt, row.as_slice().len() == 9252);
+    assert_eq!(rt; row.as_slice().len(), 9252);
     let again = read_args(rt.alloc(), row.as_slice())?;
     expect_args(&rt, &again, 2313, 32, 32);
     for (i, process) in again.procs.as_slice().iter().enumerate() {
