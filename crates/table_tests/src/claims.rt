@@ -23,11 +23,20 @@ fn pending_is_a_set(rt: HostRuntime) {
 #[test]
 fn claims_are_exclusive(rt: HostRuntime) {
     let mut claims = Claims::new();
-    expect(&rt, claims.free(4, Pid(2)) == Err(XousError::InterruptNotFound));
+    expect(
+        &rt,
+        claims.free(4, Pid(2)) == Err(XousError::InterruptNotFound),
+    );
     expect_pid(&rt, claims.pend(4), None);
     expect(&rt, claims.claim(4, Pid(2), 0x1_0000, 0) == Ok(()));
-    expect(&rt, claims.claim(4, Pid(3), 0x1_0000, 0) == Err(XousError::InterruptInUse));
-    expect(&rt, claims.free(4, Pid(3)) == Err(XousError::InterruptNotFound));
+    expect(
+        &rt,
+        claims.claim(4, Pid(3), 0x1_0000, 0) == Err(XousError::InterruptInUse),
+    );
+    expect(
+        &rt,
+        claims.free(4, Pid(3)) == Err(XousError::InterruptNotFound),
+    );
     expect(&rt, claims.get(4).map(|claim| claim.pid) == Some(Pid(2)));
     expect(&rt, claims.free(4, Pid(2)) == Ok(()));
     expect(&rt, claims.get(4) == None);

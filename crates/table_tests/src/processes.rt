@@ -30,7 +30,10 @@ fn connections_are_few(rt: HostRuntime) {
             expect(&rt, processes.connect(Pid(2), Serial(k)) == Ok(Cid(k + 2)));
         }
         expect(&rt, !processes.room(Pid(2), Serial(32)));
-        expect(&rt, processes.connect(Pid(2), Serial(32)) == Err(XousError::InvalidLimit));
+        expect(
+            &rt,
+            processes.connect(Pid(2), Serial(32)) == Err(XousError::InvalidLimit),
+        );
         expect(&rt, processes.room(Pid(2), Serial(31)));
         expect(&rt, processes.connect(Pid(2), Serial(31)) == Ok(Cid(33)));
     } else {

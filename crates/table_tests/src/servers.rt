@@ -19,7 +19,10 @@ fn a_seat_is_used_again_and_a_serial_never(rt: HostRuntime) {
     if let Ok(mut servers) = Servers::new(rt.alloc()) {
         expect(&rt, servers.next_serial() == Serial(1));
         expect(&rt, make(&mut servers, SID, 2) == Some(Ok(Serial(1))));
-        expect(&rt, make(&mut servers, SID, 4) == Some(Err(XousError::ServerExists)));
+        expect(
+            &rt,
+            make(&mut servers, SID, 4) == Some(Err(XousError::ServerExists)),
+        );
         expect_serial(&rt, servers.find(SID), Some(Serial(1)));
         servers.remove(Serial(1));
         expect_serial(&rt, servers.find(SID), None);
@@ -28,7 +31,10 @@ fn a_seat_is_used_again_and_a_serial_never(rt: HostRuntime) {
         expect_pid(&rt, servers.owner(Serial(2)), Some(Pid(4)));
         expect(&rt, servers.seat(Serial(1)) == None);
         expect_pid(&rt, servers.owner(Serial(1)), None);
-        expect(&rt, servers.at_seat(0).map(|server| server.serial) == Some(Serial(2)));
+        expect(
+            &rt,
+            servers.at_seat(0).map(|server| server.serial) == Some(Serial(2)),
+        );
         expect(&rt, servers.at_seat(63) == None);
     } else {
         expect(&rt, false);
@@ -58,7 +64,10 @@ fn servers_go_on_after_a_resume(rt: HostRuntime) {
         }
         expect_pid(&rt, servers.owner(Serial(1)), None);
         expect_serial(&rt, servers.any_of(Pid(2)), Some(Serial(7)));
-        expect(&rt, make(&mut servers, Sid([9; 4]), 2) == Some(Ok(Serial(9))));
+        expect(
+            &rt,
+            make(&mut servers, Sid([9; 4]), 2) == Some(Ok(Serial(9))),
+        );
         expect(&rt, servers.seat(Serial(9)) == Some(2));
         expect(&rt, servers.next_serial() == Serial(10));
     } else {
@@ -71,10 +80,19 @@ fn servers_are_few(rt: HostRuntime) {
     if let Ok(mut servers) = Servers::new(rt.alloc()) {
         for k in 0..64 {
             let pid = if k < 40 { 2 } else { 3 };
-            expect(&rt, make(&mut servers, Sid([k, 0, 0, 0]), pid) == Some(Ok(Serial(k + 1))));
+            expect(
+                &rt,
+                make(&mut servers, Sid([k, 0, 0, 0]), pid) == Some(Ok(Serial(k + 1))),
+            );
         }
-        expect(&rt, make(&mut servers, SID, 2) == Some(Err(XousError::InvalidLimit)));
-        expect(&rt, make(&mut servers, Sid([0; 4]), 2) == Some(Err(XousError::ServerExists)));
+        expect(
+            &rt,
+            make(&mut servers, SID, 2) == Some(Err(XousError::InvalidLimit)),
+        );
+        expect(
+            &rt,
+            make(&mut servers, Sid([0; 4]), 2) == Some(Err(XousError::ServerExists)),
+        );
         servers.remove(Serial(1));
         expect(&rt, make(&mut servers, SID, 3) == Some(Ok(Serial(65))));
         expect(&rt, servers.seat(Serial(65)) == Some(0));

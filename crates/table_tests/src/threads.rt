@@ -38,7 +38,11 @@ fn order_goes_round(rt: HostRuntime) {
             ((4, 3), (2, 2)),
             ((3, 7), (4, 3)),
         ] {
-            expect_thread(&rt, threads.next_ready_after(id(from.0, from.1)), Some(id(next.0, next.1)));
+            expect_thread(
+                &rt,
+                threads.next_ready_after(id(from.0, from.1)),
+                Some(id(next.0, next.1)),
+            );
         }
         threads.end(id(2, 2));
         expect_thread(&rt, threads.next_ready_after(id(2, 2)), Some(id(4, 3)));
@@ -79,7 +83,10 @@ fn the_lowest_receiver_is_found(rt: HostRuntime) {
         threads.set(id(3, 4), thread(16, ThreadState::Ready));
         expect_thread(&rt, threads.receiver(Serial(1)), Some(id(3, 9)));
         expect_thread(&rt, threads.receiver(Serial(3)), None);
-        expect(&rt, threads.get(id(3, 4)).map(|thread| thread.pc) == Some(16));
+        expect(
+            &rt,
+            threads.get(id(3, 4)).map(|thread| thread.pc) == Some(16),
+        );
         expect(&rt, threads.get(id(3, 5)).map(|thread| thread.pc) == None);
         expect(&rt, threads.get(id(1, 0)).map(|thread| thread.pc) == None);
     } else {
