@@ -107,8 +107,8 @@ fn tables(alloc: Global, plan: &BootPlan) -> Result<Tables, NoMemory>
 
 impl<W: SwapStore> Kernel<W> {
     /// Boots the processes of a plan with the bytes of its file. All memory of the run is taken
-    /// here. Want of it hands the store back, and so does a store that fails, which is asked only
-    /// where the plan has more pages than there are frames for.
+    /// here. Want of it hands the store back, and so does `SwapFault`, which comes only where the
+    /// plan has more pages than there are frames for.
     pub fn boot(
         alloc: Global,
         plan: &BootPlan,

@@ -103,7 +103,7 @@ impl<W: SwapStore> Kernel<W> {
         ensures machine { machine_of W.held self.new ≡ turn (machine_of W.held self.old) }
         ensures last { last_of self.new ≡ last_of self.old }
         ensures none { PutsNoneOut self.old self.new }
-        // The store isn't called.
+        // The store stays as it is.
         ensures store { store_of self.new.mem ≡ store_of self.old.mem }
         ensures tie { IsTied W.held self.new.mem }
         ensures keeps { Keeps W.SwapStore self.old self.new }

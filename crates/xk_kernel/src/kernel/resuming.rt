@@ -22,8 +22,8 @@ use xk_ports::SwapStore;
 
 impl<W: SwapStore> Kernel<W> {
     /// Builds the kernel again from a state that a file spells, with so many of the pages that there may be in slots of the
-    /// store. All memory of the run is taken here. Want of it hands the store back, and so does a store that fails, which is
-    /// asked only where the state has more pages than there are frames for.
+    /// store. All memory of the run is taken here. Want of it hands the store back, and so does `SwapFault`, which comes only
+    /// where the state has more pages than there are frames for.
     pub fn resume(
         alloc: Global,
         state: &State,

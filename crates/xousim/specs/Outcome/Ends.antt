@@ -10,7 +10,7 @@ use Rattle.xousim.specs.Outcome.Resumes.{EndsResume}
 use Rattle.xousim.specs.Outcome.Suspends.{EndsSuspend}
 use Rattle.xousim.specs.Words.{Command, Plays, Checks, Converts, Demo, Suspends, Resumes}
 
--- by its command; `check` and `convert` don't touch the store
+-- by its command; `check` and `convert` don't prepare the store
 abbrev pub EndsCommand : Command → Call → Type 0
 EndsCommand (Plays play) call = EndsPlay play call
 EndsCommand (Checks check) call = EndsCheck check call × IsUnprepared call.store

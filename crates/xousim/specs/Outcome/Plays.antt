@@ -106,7 +106,7 @@ AsksBoth play call events_picked =
     Grows call.host.asked call.host.asked_after
     (record { slot = First; name = play.image; picked = true } ∷ record { slot = Second; name = play.events; picked = events_picked } ∷ [])
 
--- The image isn't planned, and the store isn't touched.
+-- The image isn't planned, and the store isn't prepared.
 pub record EndsRefused (play : Play) (call : Call) : Type 0 where
   pub image : EndsUnplanned play.image play.slots call
   pub store : IsUnprepared call.store

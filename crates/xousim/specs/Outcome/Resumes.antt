@@ -31,7 +31,7 @@ abbrev pub resumed_on : Machine → ℕ → Booted
 resumed_on machine slots = record { machine = machine; room = room_from machine slots; slots = slots }
 
 -- There is no state to go on from, and nothing is written. The state file was asked for at the first slot and picked there or not, nothing
--- else was, and the store isn't touched.
+-- else was, and the store isn't prepared.
 pub record EndsUnread (resume : Resume) (call : Call) : Type 0 where
   pub asked : AsksFor call.host.asked call.host.asked_after First resume.state
   pub refused : RefusesState call.host.files resume.state resume.slots (HostRose call) call.status

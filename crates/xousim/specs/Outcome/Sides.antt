@@ -102,7 +102,7 @@ IsUnwritten call = call.out.written_after ≡ call.out.written
 abbrev pub Prepares : StoreSide → ℕ → Option (List ℕ) → Bool → Type 0
 Prepares store slots name prepared = Grows store.asked store.asked_after (record { slots = slots; name = name; prepared = prepared } ∷ [])
 
--- the store wasn't touched: no preparation was asked for, and its count stays
+-- the store isn't prepared: no preparation was asked for, and its count stays
 pub record IsUnprepared (store : StoreSide) : Type 0 where
   pub asked : store.asked_after ≡ store.asked
   pub faults : store.faults_after ≡ store.faults
