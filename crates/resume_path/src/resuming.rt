@@ -127,8 +127,8 @@ pub struct Resumed<W: SwapStore> {
 }
 
 /// Builds the machine of a state that a file spells, with so many of the pages that there may be in slots of the store. All memory
-/// is taken here. Want of it hands the store back, and so does a store that fails, which is asked only where the state has more
-/// pages than there are frames for.
+/// is taken here. Want of it hands the store back, and so does `SwapFault`, which comes only where the state has more pages than
+/// there are frames for.
 pub fn resume<W: SwapStore>(
     alloc: Global,
     state: &State,
