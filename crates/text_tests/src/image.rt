@@ -306,11 +306,15 @@ fn largest_row_is_read_back(rt: HostRuntime) -> Result<(), Fail> {
     assert_eq!(rt; row.as_slice().len(), 9252);
     let again = read_args(rt.alloc(), row.as_slice())?;
     expect_args(&rt, &again, 2313, 32, 32);
-    for (i, process) in again.procs.as_slice().iter().enumerate() {
-        expect_process(&rt, process, i as u32, &[CODE; 32]);
+    let mut load = 0u32;
+    for process in again.procs.as_slice() {
+        expect_process(&rt, process, load, &[CODE; 32]);
+        load = load.wrapping_add(1);
     }
-    for (i, name) in again.names.as_slice().iter().enumerate() {
-        expect_name(&rt, name, (i as u32).wrapping_add(2), b"process");
+    let mut pid = 2u32;
+    for name in again.names.as_slice() {
+        expect_name(&rt, name, pid, b"process");
+        pid = pid.wrapping_add(1);
     }
     Ok(())
 }
