@@ -66,6 +66,6 @@ pub record KeepsRest {W : Type 0} (S : SwapStore W)
   pub none : none_out old ≡ true → none_out new ≡ true
   -- no more pages are out: one goes out only in place of one that comes in
   pub no_more : pages_out new ≤ pages_out old
-  -- where no page is out, the store isn't called
+  -- where no page is out, the store stays as it is
   pub still : none_out old ≡ true → store_of new ≡ store_of old
   pub store : KeepsStore S (store_of old) (store_of new)

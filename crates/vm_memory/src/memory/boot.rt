@@ -269,8 +269,8 @@ impl<W: SwapStore> Memory<W> {
 
     /// A memory with the first pages of a plan, with their bytes from the file that it was made for.
     /// All memory is taken here. Want of it, or `SwapFault` of the store, hands the store back. Where
-    /// there are frames for all pages, none goes out: the store isn't called, and it takes time by RAM
-    /// and the pages. Else each page past those frames puts another one out, and it takes time
+    /// there are frames for all pages, no page is out and `SwapFault` doesn't come; it takes time by
+    /// RAM and the pages. Else each page past those frames puts another one out, and it takes time
     /// by RAM and the pages too.
     pub fn boot(
         alloc: Global,
