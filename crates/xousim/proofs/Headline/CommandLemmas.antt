@@ -1,28 +1,26 @@
 -- Every call is whole, cut or unmade, by its command.
-use Rattle.std.proofs.Common.{◌≡◌, ◌⊎◌, inl, inr, ℕ, List, [], Option, None, Some, refl, sym, ap, ◌∙◌, subst}
+use Rattle.std.proofs.Common.{◌≡◌, inl, inr, ℕ, List, [], Option, None, Some, refl, sym, ap, ◌∙◌, subst}
 use Rattle.boot_plan.specs.declared.plans.BootPlan.{BootPlan}
 use Rattle.demo_load.specs.Events.{load_history, load_machine, load_plan}
 use Rattle.demo_load.specs.Totals.{demo_line, totals_of}
-use Rattle.event_text.specs.EventFile.{input_of}
 use Rattle.event_player.specs.History.{History, run_of}
 use Rattle.event_player.specs.declared.ending.Ending.{Ending}
 use Rattle.event_player.specs.declared.ending.Ending.TheVariants.{Played, LimitMet, BadLine}
 use Rattle.host_io.specs.Reading.{IsFile, IsTold}
-use Rattle.kernel_args.specs.declared.faults.ArgFault.{ArgFault}
 use Rattle.machine_model.specs.State.Machine.{Machine}
 use Rattle.xk_base.specs.declared.limits.TheConstants.{SLOT_LIMIT}
-use Rattle.xk_ports.specs.Told.{Grows, GrowsByProperPrefix}
+use Rattle.xk_ports.specs.Told.{Grows}
 use Rattle.xk_ports.proofs.ToldLemmas.{Grows-none}
-use Rattle.xousim.specs.Headline.{IsCut, IsUnmade, IsWhole}
+use Rattle.xousim.specs.Headline.{IsWhole}
 use Rattle.xousim.specs.Outcome.Check.{EndsCheck, Summarizes}
 use Rattle.xousim.specs.Outcome.Convert.{EndsConvert, IsConversion, Writes}
-use Rattle.xousim.specs.Outcome.Demo.{Demonstrates, EndsDemo, TellsDemo}
-use Rattle.xousim.specs.Outcome.Ends.{Ends, EndsCommand}
+use Rattle.xousim.specs.Outcome.Demo.{Demonstrates, TellsDemo}
+use Rattle.xousim.specs.Outcome.Ends.{EndsCommand}
 use Rattle.xousim.specs.Outcome.Fronts.{IsKnown, IsReadOut}
 use Rattle.xousim.specs.Outcome.Images.{Image, IsPlanned, plan_in}
 use Rattle.xousim.specs.Outcome.Plays.{EndsPlay, HasCause}
-use Rattle.xousim.specs.Outcome.Resumes.{EndsResume, limit_from, resumed_on, traced}
-use Rattle.xousim.specs.Outcome.Says.{HasFault, Run, Says, Starts, status_of}
+use Rattle.xousim.specs.Outcome.Resumes.{EndsResume, resumed_on, traced}
+use Rattle.xousim.specs.Outcome.Says.{status_of}
 use Rattle.xousim.specs.Outcome.Sides.{Call, HostRose, IsUnwritten, OutRose}
 use Rattle.xousim.specs.Outcome.Starts.{Booted, booted_of, room_of}
 use Rattle.xousim.specs.Outcome.States.{RefusesState, StateFile, room_from}
@@ -31,7 +29,7 @@ use Rattle.xousim.specs.Summary.{summary_of}
 use Rattle.xousim.specs.Words.{Check, Command, Plays, Checks, Converts, Demo, Suspends, Resumes, Play, Resume, Suspend}
 use Rattle.xousim.specs.declared.status.Status.{Status}
 use Rattle.xousim.specs.declared.status.Status.TheVariants.{Done, Usage, ReadFault, WriteFault, ImageFault, EventFault, StepLimit, SwapFault, NoMemory}
-use Rattle.xousim.proofs.Headline.RunLemmas.{PlaysSo, TellsSo, Three, known_over, refused_three, said_over, stopped_three, told_three, unpicked_three}
+use Rattle.xousim.proofs.Headline.RunLemmas.{PlaysSo, Three, known_over, refused_three, said_over, stopped_three, told_three, unpicked_three}
 
 -- nothing was written
 grows_nothing : (before after : Option (List ℕ)) → after ≡ before → Grows before after []

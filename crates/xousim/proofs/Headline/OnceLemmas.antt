@@ -1,8 +1,7 @@
 -- The files say one status and one text of a command.
-use Rattle.std.proofs.Common.{◌≡◌, ◌<◌, ◌≤◌, ◌⊎◌, inl, inr, ℕ, List, [], length, Option, Some, refl, sym, ap, ◌∙◌, subst}
+use Rattle.std.proofs.Common.{◌≡◌, inl, inr, ℕ, List, Option, Some, sym, ap, ◌∙◌, subst}
 use Rattle.boot_plan.specs.declared.plans.BootPlan.{BootPlan}
 use Rattle.event_player.specs.History.{History, run_of}
-use Rattle.event_player.specs.declared.ending.Ending.{Ending}
 use Rattle.kernel_args.specs.declared.args.Args.{Args}
 use Rattle.kernel_args.specs.declared.faults.ArgFault.{ArgFault}
 use Rattle.kernel_args.proofs.ImageLemmas.{spelled_once}
@@ -11,11 +10,11 @@ use Rattle.machine_model.specs.State.Machine.{Machine}
 use Rattle.xk_base.specs.declared.limits.TheConstants.{SLOT_LIMIT}
 use Rattle.xousim.specs.Outcome.Images.{IsPlanned, IsSoundImage}
 use Rattle.xousim.specs.Outcome.Resumes.{limit_from}
-use Rattle.xousim.specs.Outcome.Says.{ConvertsTooLong, Gives, HasFault, HasImageFault, Run, Says, SaysFault, SaysRun, SaysSound, StartsOnImage, StartsOnState, event_name, history_in, status_of, text_of}
+use Rattle.xousim.specs.Outcome.Says.{Gives, HasFault, Run, Says, SaysRun, SaysSound, StartsOnImage, StartsOnState, event_name, history_in, status_of, text_of}
 use Rattle.xousim.specs.Summary.{summary_of}
 use Rattle.xousim.specs.Words.{Check, Command, Plays, Checks, Converts, Demo, Suspends, Resumes, Play, Resume}
 use Rattle.xousim.specs.declared.status.Status.{Status}
-use Rattle.xousim.specs.declared.status.Status.TheVariants.{Done, ImageFault}
+use Rattle.xousim.specs.declared.status.Status.TheVariants.{ImageFault}
 use Rattle.xousim.proofs.Outcome.FileLemmas.{boots_no_fault, conversion_no_fault, conversions_agree, faults_agree, images_agree, planned_no_fault, same_bytes, short_or_long}
 use Rattle.xousim.proofs.Outcome.StateLemmas as of_state
 

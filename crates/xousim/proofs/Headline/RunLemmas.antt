@@ -1,6 +1,5 @@
 -- A call whose run is played is whole, cut or unmade.
-use Rattle.std.proofs.Common.{◌≡◌, ◌⊎◌, inl, inr, ℕ, List, [], ◌++◌, Option, None, Some, refl, sym, ap, ◌∙◌, subst}
-use Rattle.boot_plan.specs.declared.plans.BootPlan.{BootPlan}
+use Rattle.std.proofs.Common.{◌≡◌, ◌⊎◌, inl, inr, ℕ, List, Option, refl, sym, ap, ◌∙◌, subst}
 use Rattle.event_text.specs.EventFile.{input_of}
 use Rattle.event_text.specs.Lines.{whole_lines}
 use Rattle.event_player.specs.History.{History, run_of}
@@ -10,17 +9,16 @@ use Rattle.event_player.specs.declared.ending.Ending.{Ending}
 use Rattle.event_player.specs.declared.ending.Ending.TheVariants.{Played, LimitMet, BadLine}
 use Rattle.event_player.specs.declared.telling.Telling.{Telling}
 use Rattle.event_player.proofs.Playing.SomeStepsLemmas.{some_steps_first}
-use Rattle.host_io.specs.Reading.{IsFile, IsReadOf, IsTold}
+use Rattle.host_io.specs.Reading.{IsFile, IsReadOf}
 use Rattle.kernel_args.specs.declared.faults.ArgFault.{ArgFault}
 use Rattle.machine_model.specs.State.Machine.{Machine}
-use Rattle.xk_ports.specs.Told.{Grows, GrowsByPrefix}
-use Rattle.xk_ports.proofs.ToldLemmas.{Grows-none}
+use Rattle.xk_ports.specs.Told.{Grows}
 use Rattle.xousim.specs.Headline.{IsCut, IsUnmade, IsWhole}
-use Rattle.xousim.specs.Outcome.Fronts.{IsKnown, IsReadOut, ReadsLines, WritesFront, WritesLines, WritesProperFront}
+use Rattle.xousim.specs.Outcome.Fronts.{IsKnown, IsReadOut, ReadsLines, WritesFront}
 use Rattle.xousim.specs.Outcome.Images.{Refuses}
 use Rattle.xousim.specs.Outcome.Plays.{HasCause, RanFull, RanSomeSteps, Tells}
-use Rattle.xousim.specs.Outcome.Says.{Gives, HasFault, HasImageFault, Run, Says, SaysRun, Starts, event_name, history_in, status_of, tells_of, text_of}
-use Rattle.xousim.specs.Outcome.Sides.{Call, HostRose, IsTrusted, IsUnwritten, StoreSide}
+use Rattle.xousim.specs.Outcome.Says.{Gives, HasFault, HasImageFault, Run, Says, SaysRun, Starts, event_name, status_of, tells_of, text_of}
+use Rattle.xousim.specs.Outcome.Sides.{Call, HostRose, IsTrusted, IsUnwritten}
 use Rattle.xousim.specs.Outcome.Starts.{Booted, KnowsPages, StopsIn}
 use Rattle.xousim.specs.Words.{Command, Play}
 use Rattle.xousim.specs.declared.status.Status.{Status}

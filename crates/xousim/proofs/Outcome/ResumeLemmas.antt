@@ -12,7 +12,7 @@ use Rattle.vm_memory.specs.Bytes.{MeansBytes, none_out}
 use Rattle.vm_memory.specs.Memory.{Size, size}
 use Rattle.xk_base.specs.Numbers.Limits.{table_frames}
 use Rattle.xk_kernel.specs.Knowing.{ComesTo}
-use Rattle.resume_path.specs.Resumable.{CanSplit, resumed_page_frames, resumed_size, state_pages}
+use Rattle.resume_path.specs.Resumable.{resumed_page_frames, resumed_size, state_pages}
 use Rattle.xk_kernel.specs.State.{machine_of}
 use Rattle.xk_kernel.specs.declared.kernel.Kernel.{Kernel}
 use Rattle.xk_ports.specs.declared.store.SwapStore.{Ghosts as SwapStore}
@@ -29,7 +29,7 @@ use Rattle.event_player.specs.Rooms.{IsFull, Room}
 use Rattle.xousim.specs.Outcome.States.{StateFile, room_from}
 use Rattle.host_io.specs.Reading.{Asked, IsFile, IsTold}
 use Rattle.event_player.specs.Standing.{Begins, room_in, stand}
-use Rattle.xousim.specs.StateFiles.{IsSoundState, Restores}
+use Rattle.xousim.specs.StateFiles.{IsSoundState}
 use Rattle.xousim.specs.Words.{Resume}
 use Rattle.xousim.proofs.Outcome.TopLemmas.{Before, IsBefore, asks_both, begun_at, booted_is, cause_earlier, rose_after, tells_earlier}
 use Rattle.event_player.proofs.Playing.StandingLemmas.{near_means, trusted_means}

@@ -1,17 +1,15 @@
 -- When what the pages of a run hold is known.
-use Rattle.std.proofs.Common.{◌≡◌, ◌==◌, ◌||◌, ◌⊎◌, ◌∙◌, inl, inr, ℕ, Bool, true, List, Option, ap, sym, subst}
+use Rattle.std.proofs.Common.{◌≡◌, ◌==◌, ◌||◌, ◌⊎◌, ◌∙◌, inl, inr, true, List, ap, sym, subst}
 use Rattle.event_text.specs.EventFile.{Input}
 use Rattle.machine_model.specs.Runs.Moments.{Moment}
 use Rattle.machine_model.specs.State.Machine.{Machine}
 use Rattle.machine_history.specs.HistoryMoments.{moments_of}
-use Rattle.sv32_space.specs.Tie.{Held}
 use Rattle.vm_memory.specs.Bytes.{MeansBytes, is_known, none_out}
 use Rattle.vm_memory.specs.Memory.{Size, size, store_of}
 use Rattle.xk_kernel.specs.Knowing.{is_trusted}
 use Rattle.xk_kernel.specs.Sound.{Keeps}
 use Rattle.xk_kernel.specs.declared.kernel.Kernel.{Kernel}
 use Rattle.xk_ports.specs.declared.store.SwapStore.{Ghosts as SwapStore}
-use Rattle.xk_ports.specs.Store.{StoreAsked}
 use Rattle.event_player.specs.Gathering.{Text}
 use Rattle.event_player.specs.Playing.{IsKnown, Run}
 use Rattle.event_player.specs.Rooms.{ComesFull, IsFull, Room}

@@ -4,8 +4,7 @@ use Rattle.boot_plan.specs.declared.plans.BootPlan.{BootPlan}
 use Rattle.xk_ports.specs.declared.host.FileSlot.TheVariants.{First}
 use Rattle.xk_ports.specs.Told.{Grows, GrowsByProperPrefix}
 use Rattle.xousim.specs.declared.status.Status.{Status}
-use Rattle.xousim.specs.declared.status.Status.TheVariants.{Done, Usage, ReadFault, WriteFault, ImageFault, EventFault, StepLimit}
-use Rattle.xousim.specs.declared.status.Status.TheVariants.{SwapFault, NoMemory}
+use Rattle.xousim.specs.declared.status.Status.TheVariants.{Done, WriteFault}
 use Rattle.xousim.specs.Outcome.Images.{EndsUnplanned, IsPlanned}
 use Rattle.xousim.specs.Outcome.Sides.{Call, OutRose, SinkSide}
 use Rattle.host_io.specs.Reading.{Asked, IsTold}

@@ -8,8 +8,7 @@ use Rattle.xk_base.specs.declared.limits.TheConstants.{IMAGE_LIMIT, SLOT_LIMIT}
 use Rattle.xk_ports.specs.declared.host.FileSlot.TheVariants.{First}
 use Rattle.xk_ports.specs.Told.{Grows, GrowsByProperPrefix}
 use Rattle.xousim.specs.declared.status.Status.{Status}
-use Rattle.xousim.specs.declared.status.Status.TheVariants.{Done, Usage, ReadFault, WriteFault, ImageFault, EventFault, StepLimit}
-use Rattle.xousim.specs.declared.status.Status.TheVariants.{SwapFault, NoMemory}
+use Rattle.xousim.specs.declared.status.Status.TheVariants.{Done, WriteFault, ImageFault}
 use Rattle.xousim.specs.Outcome.Images.{EndsUnplanned, IsSoundImage}
 use Rattle.xousim.specs.Outcome.Sides.{Call, OutRose, SinkSide, Told}
 use Rattle.host_io.specs.Reading.{Asked, IsFile, IsTold}

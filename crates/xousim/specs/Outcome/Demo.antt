@@ -4,8 +4,8 @@ use Rattle.xk_base.specs.declared.limits.TheConstants.{DEFAULT_STEPS}
 use Rattle.machine_history.specs.HistoryMoments.{moments_of}
 use Rattle.xk_ports.specs.Told.{Grows, GrowsByProperPrefix}
 use Rattle.xousim.specs.declared.status.Status.{Status}
-use Rattle.xousim.specs.declared.status.Status.TheVariants.{Done, Usage, ReadFault, WriteFault, ImageFault, EventFault, StepLimit}
-use Rattle.xousim.specs.declared.status.Status.TheVariants.{SwapFault, NoMemory}
+use Rattle.xousim.specs.declared.status.Status.TheVariants.{Done, WriteFault}
+use Rattle.xousim.specs.declared.status.Status.TheVariants.{SwapFault}
 use Rattle.demo_load.specs.Events.{load_events, load_history, load_machine, load_plan}
 use Rattle.demo_load.specs.Totals.{demo_line, totals_of}
 use Rattle.xousim.specs.Outcome.Sides.{Call, OutRose, Prepares, SinkSide, StoreRose, StoreSide}

@@ -1,5 +1,5 @@
 -- What a call wrote of a run, where a fault outside cut it short; and when what the pages of its run hold is known.
-use Rattle.std.specs.Prelude.{◌≡◌, ◌⊎◌, ℕ, List, [], Option}
+use Rattle.std.specs.Prelude.{◌≡◌, ◌⊎◌, ℕ, List, []}
 use Rattle.event_player.specs.Telling.{told}
 use Rattle.event_player.specs.declared.ending.Ending.TheVariants.{Played}
 use Rattle.event_text.specs.EventFile.{input_of}

@@ -9,8 +9,8 @@ use Rattle.machine_model.specs.State.Machine.{Machine}
 use Rattle.xk_kernel.specs.Start.{start}
 use Rattle.xk_ports.specs.declared.host.FileSlot.TheVariants.{First}
 use Rattle.xousim.specs.declared.status.Status.{Status}
-use Rattle.xousim.specs.declared.status.Status.TheVariants.{Done, Usage, ReadFault, WriteFault, ImageFault, EventFault, StepLimit}
-use Rattle.xousim.specs.declared.status.Status.TheVariants.{SwapFault, NoMemory}
+use Rattle.xousim.specs.declared.status.Status.TheVariants.{ReadFault, ImageFault}
+use Rattle.xousim.specs.declared.status.Status.TheVariants.{NoMemory}
 use Rattle.xousim.specs.Outcome.Sides.{Call, HostRose, IsUnwritten, Told}
 use Rattle.host_io.specs.Reading.{AsksFor, IsFile}
 

@@ -9,8 +9,8 @@ use Rattle.xk_ports.specs.Told.{Grows, GrowsByProperPrefix}
 use Rattle.event_player.specs.declared.ending.Ending.{Ending}
 use Rattle.event_player.specs.declared.ending.Ending.TheVariants.{Played, LimitMet, BadLine}
 use Rattle.xousim.specs.declared.status.Status.{Status}
-use Rattle.xousim.specs.declared.status.Status.TheVariants.{Done, Usage, ReadFault, WriteFault, ImageFault, EventFault, StepLimit}
-use Rattle.xousim.specs.declared.status.Status.TheVariants.{SwapFault, NoMemory}
+use Rattle.xousim.specs.declared.status.Status.TheVariants.{Done, ReadFault, WriteFault, EventFault, StepLimit}
+use Rattle.xousim.specs.declared.status.Status.TheVariants.{SwapFault}
 use Rattle.event_player.specs.History.{MayEnd, run_of}
 use Rattle.xousim.specs.Outcome.Images.{EndsUnplanned, Image, plan_in}
 use Rattle.xousim.specs.Outcome.Sides.{Call, HostRose, IsTrusted, IsUnprepared, IsUnwritten, OutRose, Prepares, StoreRose}

@@ -1,7 +1,6 @@
 -- What a call meets outside, before it and after it. What is said of the bytes of files, of what stands on `out` and of the preparations
 -- asked for holds where they are told; what is said of counts of faults rests on nothing.
 use Rattle.std.specs.Prelude.{◌≡◌, ◌==◌, ◌||◌, ◌⊎◌, ℕ, Bool, IsTrue, List, [], ◌∷◌, Option}
-use Rattle.sv32_space.specs.Tie.{Held}
 use Rattle.xk_base.specs.Outside.{Rose}
 use Rattle.xk_ports.specs.declared.host.Host.{Ghosts as Host}
 use Rattle.xk_ports.specs.declared.sink.Sink.{Ghosts as Sink}

@@ -1,5 +1,5 @@
 -- A run starts: its store is prepared, and its plan is booted.
-use Rattle.std.specs.Prelude.{◌≡◌, ◌<◌, ◌⊎◌, ℕ, true, false, List, Option, length}
+use Rattle.std.specs.Prelude.{◌≡◌, ◌⊎◌, ℕ, true, false, List, Option, length}
 use Rattle.xk_base.specs.declared.events.Event.{Event}
 use Rattle.boot_plan.specs.Capacity.{page_frames}
 use Rattle.boot_plan.specs.declared.plans.BootPlan.{BootPlan}
@@ -7,7 +7,6 @@ use Rattle.machine_model.specs.State.Machine.{Machine}
 use Rattle.machine_history.specs.HistoryMoments.{moments_of}
 use Rattle.event_player.specs.Rooms.{ComesFull, IsFull, Room}
 use Rattle.xousim.specs.declared.status.Status.{Status}
-use Rattle.xousim.specs.declared.status.Status.TheVariants.{Done, Usage, ReadFault, WriteFault, ImageFault, EventFault, StepLimit}
 use Rattle.xousim.specs.declared.status.Status.TheVariants.{SwapFault, NoMemory}
 use Rattle.xousim.specs.Outcome.Sides.{IsTrusted, Prepares, StoreRose, StoreSide}
 

@@ -2,8 +2,8 @@
 use Rattle.std.specs.Prelude.{◌-◌, ℕ, List}
 use Rattle.machine_model.specs.State.Machine.{Machine}
 use Rattle.xousim.specs.declared.status.Status.{Status}
-use Rattle.xousim.specs.declared.status.Status.TheVariants.{Done, Usage, ReadFault, WriteFault, ImageFault, EventFault, StepLimit}
-use Rattle.xousim.specs.declared.status.Status.TheVariants.{SwapFault, NoMemory}
+use Rattle.xousim.specs.declared.status.Status.TheVariants.{ReadFault, ImageFault}
+use Rattle.xousim.specs.declared.status.Status.TheVariants.{NoMemory}
 use Rattle.xousim.specs.Outcome.Sides.{Told}
 use Rattle.event_player.specs.Rooms.{Room}
 use Rattle.host_io.specs.Reading.{IsFile}

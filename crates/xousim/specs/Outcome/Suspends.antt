@@ -8,8 +8,8 @@ use Rattle.event_player.specs.declared.telling.Telling.TheVariants.{Nothing}
 use Rattle.event_player.specs.declared.ending.Ending.{Ending}
 use Rattle.event_player.specs.declared.ending.Ending.TheVariants.{Played, LimitMet, BadLine}
 use Rattle.xousim.specs.declared.status.Status.{Status}
-use Rattle.xousim.specs.declared.status.Status.TheVariants.{Done, Usage, ReadFault, WriteFault, ImageFault, EventFault, StepLimit}
-use Rattle.xousim.specs.declared.status.Status.TheVariants.{SwapFault, NoMemory}
+use Rattle.xousim.specs.declared.status.Status.TheVariants.{Done, ReadFault, WriteFault, EventFault, StepLimit}
+use Rattle.xousim.specs.declared.status.Status.TheVariants.{SwapFault}
 use Rattle.event_text.specs.EventFile.{input_of}
 use Rattle.event_player.specs.History.{History, MayEnd, run_of}
 use Rattle.xousim.specs.Outcome.Images.{Image, plan_in}

@@ -5,7 +5,7 @@ use Rattle.machine_model.specs.State.Machine.{Machine}
 use Rattle.vm_memory.specs.Memory.{store_of}
 use Rattle.xk_kernel.specs.State.{machine_of}
 use Rattle.xk_ports.specs.Host.{FileAsked}
-use Rattle.xk_ports.specs.declared.host.FileSlot.TheVariants.{First, Second}
+use Rattle.xk_ports.specs.declared.host.FileSlot.TheVariants.{Second}
 use Rattle.event_player.specs.declared.event_file.RunFault.{RunFault}
 use Rattle.event_player.specs.declared.event_file.RunFault.TheVariants as faults
 use Rattle.event_player.specs.declared.ending.Ending.{Ending}

@@ -1,6 +1,5 @@
 use Rattle.std.proofs.Common.{◌≡◌, ◌∙◌, ℕ, List, [], Option, refl, sym, subst, inl, inr}
 use Rattle.vm_memory.specs.Memory.{size, store_of}
-use Rattle.xk_ports.specs.declared.host.FileSlot.TheVariants.{First, Second}
 use Rattle.xousim.specs.Finish.{EndsBooted}
 use Rattle.xousim.specs.Outcome.Starts.{Booted}
 use Rattle.event_player.specs.Gathering.{put}
@@ -8,7 +7,7 @@ use Rattle.xousim.specs.Outcome.Resumes.{EndsResume, limit_from, traced}
 use Rattle.xousim.specs.Outcome.Sides.{Call, SinkSide, host_side, sink_side, store_side}
 use Rattle.host_io.specs.Reading.{IsTold}
 use Rattle.event_player.specs.Standing.{room_in}
-use Rattle.xousim.specs.Words.{Play, Resume, resume_in}
+use Rattle.xousim.specs.Words.{Resume, resume_in}
 use Rattle.xousim.proofs.Outcome.ResumeLemmas.{ends_resumed, limit_is}
 use Rattle.xousim.proofs.Outcome.TopLemmas.{Before, begun_at}
 use Rattle.xousim.proofs.commands.resume.resume_run.Goals as goal

@@ -1,4 +1,4 @@
-use Rattle.std.proofs.Common.{◌≡◌, ◌∙◌, ap, inr, sym, subst, ℕ, true, List, length, None}
+use Rattle.std.proofs.Common.{◌∙◌, ap, inr, sym, subst, ℕ, true, List, length, None}
 use Rattle.boot_plan.specs.declared.plans.BootPlan.{BootPlan}
 use Rattle.boot_plan.specs.declared.plans.ProcPlan.{ProcPlan}
 use Rattle.suspend_image.specs.Sheets.{SheetBytes}

@@ -1,9 +1,9 @@
-use Rattle.std.proofs.Common.{refl, subst, sym, ap, inr, ℕ, true, List, Option, Ok, Err}
+use Rattle.std.proofs.Common.{refl, subst, sym, ap, inr, true, List, Option, Ok, Err}
 use Rattle.machine_model.specs.State.Machine.{Machine}
 use Rattle.vm_memory.specs.Memory.{store_of}
 use Rattle.xk_kernel.specs.State.{machine_of}
 use Rattle.xk_ports.specs.Host.{FileAsked}
-use Rattle.xk_ports.specs.declared.host.FileSlot.TheVariants.{First, Second}
+use Rattle.xk_ports.specs.declared.host.FileSlot.TheVariants.{Second}
 use Rattle.event_player.specs.declared.ending.Ending.{Ending}
 use Rattle.event_player.specs.declared.ending.Ending.TheVariants.{Played, LimitMet, BadLine}
 use Rattle.event_player.specs.declared.event_file.RunFault.{RunFault}

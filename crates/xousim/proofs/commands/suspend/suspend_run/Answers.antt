@@ -1,6 +1,5 @@
 use Rattle.std.proofs.Common.{ℕ, List, [], Option, refl, sym, subst, inl, inr, arith}
 use Rattle.vm_memory.specs.Memory.{size, store_of}
-use Rattle.xk_ports.specs.declared.host.FileSlot.TheVariants.{First, Second}
 use Rattle.xousim.specs.Outcome.Starts.{Booted}
 use Rattle.event_player.specs.Gathering.{put}
 use Rattle.xousim.specs.Outcome.Sides.{Call, SinkSide, host_side, sink_side, store_side}
