@@ -1,1 +1,2 @@
 mod SmallSpaceLemmas
+mod UnlentLemmas

@@ -14,9 +14,14 @@ use vm_memory::{BootError, BootFault, Memory};
 use xk_base::{NoMemory, Number, Pid, Place, Right, Row, Vpn};
 use xk_ports::SwapStore;
 
+mod accesses;
+mod calls;
 mod exchange;
 mod first_pages;
 mod first_run;
+mod loans;
+mod user;
+mod windows;
 
 const PID: Pid = Pid(2);
 
