@@ -1,0 +1,5 @@
+mod KeptLemmas
+mod MoveLemmas
+mod OrderLemmas
+mod QuietLemmas
+mod StepLemmas
