@@ -1,0 +1,4 @@
+mod BeforeLemmas
+mod ChoiceLemmas
+mod QuestLemmas
+mod StandLemmas

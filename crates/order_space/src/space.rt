@@ -1,0 +1,55 @@
+//! A quest is a space.
+
+ghost use Rattle.std.specs.Prelude.{◌≡◌};
+
+use crate::quest::{OrderFault, Quest};
+use node_laws::{Move, Note};
+use state_search::{Followed, Space, Unanswered};
+
+impl Space for Quest {
+    type Label = Move;
+
+    type Key = [u8; 32];
+
+    type Note = Note;
+
+    type Fault = OrderFault;
+
+    ghost use Rattle.node_laws.specs.Moves.{Point};
+    ghost use Rattle.node_laws.specs.Searches.{IsNoteOf};
+    ghost use Rattle.order_space.specs.Quests.{IsKeyOf, Searching, first_node, next_node, searching_of};
+
+    ghost Setting = { Searching };
+
+    ghost setting = { λ quest. searching_of quest.subject };
+
+    ghost Node = { Point };
+
+    ghost start = { first_node };
+
+    ghost after = { next_node };
+
+    ghost IsKey = { IsKeyOf };
+
+    ghost IsNote = { λ q. IsNoteOf q.asked };
+
+    fn first(&mut self) -> Result<[u8; 32], Unanswered<OrderFault>> {
+        let mut run = self.arrive(&[])?;
+        let key = self.key(&mut run);
+        run.close();
+        key
+    }
+
+    fn successors(
+        &mut self,
+        path: &[Move],
+    ) -> Result<Followed<Move, [u8; 32], Note>, Unanswered<OrderFault>> {
+        let sight = self.look(path)?;
+        let edges = self.edges(path, &sight.choices)?;
+        self.count(&sight.choices);
+        Ok(Followed {
+            edges,
+            note: sight.note,
+        })
+    }
+}
