@@ -30,7 +30,7 @@ contained_map f xs d y at =
     (get_or xs at.0 d, ((at.0, within, same_read xs at.0 d within), sym (get_or-map f xs at.0 d y within) ∙ at.2))
   where
     same_read : {A : Type 0} (xs : List A) (i : ℕ) (d : A) → i < length xs → get_or xs i (get_or xs i d) ≡ get_or xs i d
-    same_read xs i d low = sym (get_or_from_slice_get xs i (get_or xs i d) (get_or xs i d) (slice_get-get_or xs i d low))
+    same_read xs i d low = get_or_from_slice_get xs i (get_or xs i d) (get_or xs i d) (slice_get-get_or xs i d low)
 
 contained_passes : {A : Type 0} (P : A → Type 0) (xs : List A) (x : A) → All P xs → Contains xs x → P x
 contained_passes P xs x all at = subst P at.2 (All-get_or P xs at.0 x at.1 all)

@@ -1,4 +1,6 @@
 mod BeforeLemmas
 mod ChoiceLemmas
+mod EdgeLemmas
+mod OrderLemmas
 mod QuestLemmas
 mod StandLemmas

@@ -1,20 +1,17 @@
 -- Paths of a search are orders from its start, which is a state of a run; and so is each state to which an order leads.
-use Rattle.std.proofs.Common.{◌≡◌, ◌≤◌, ℕ, List, length, Option, Some, All, IsSome, is_some, ap, arith, refl, subst}
+use Rattle.std.proofs.Common.{◌≡◌, List, length, Some, All, IsSome, is_some, ap}
 use Rattle.boot_plan.specs.Lawful.{CanStart, IsLawfulPlan}
 use Rattle.event_text.specs.EventFile.{input_of}
 use Rattle.machine_history.proofs.Histories.MomentLemmas.{history_matched}
 use Rattle.machine_history.proofs.Histories.ReservedLemmas.{history_reserved}
-use Rattle.machine_history.specs.History.{History, history}
 use Rattle.machine_history.specs.Reserved.{IsReservedByThread}
 use Rattle.machine_model.specs.Runs.Matched.{Matched}
-use Rattle.machine_model.specs.State.Machine.{Machine}
-use Rattle.node_laws.proofs.Moving.PlayLemmas.{orders_are_played}
 use Rattle.node_laws.proofs.Moving.SearchLemmas.{paths_are_orders}
 use Rattle.node_laws.specs.declared.moves.Move.{Move}
-use Rattle.node_laws.specs.Moves.{Asked, Point, events_of, leads_by}
-use Rattle.node_laws.specs.Orders.{IsPlayed}
+use Rattle.node_laws.specs.Moves.{Point, leads_by}
 use Rattle.node_laws.specs.Searches.{LeadsTo}
 use Rattle.order_choices.specs.Asking.{asked_of}
+use Rattle.order_space.proofs.OrderLemmas.{last_matched, last_reserved}
 use Rattle.order_space.specs.declared.subject.Subject.{Subject}
 use Rattle.order_space.specs.Quests.{Arrives, IsPath, first_node, next_node, searching_of, start_of}
 use Rattle.state_search.specs.Graph.{node_by}
@@ -22,21 +19,6 @@ use Rattle.xk_base.specs.declared.limits.TheConstants.{STEP_LIMIT}
 use Rattle.xk_kernel.proofs.Starting.FirstLawfulLemmas.{start_of_plan_matched}
 use Rattle.xk_kernel.proofs.Starting.UnreservedLemmas.{start_unreserved}
 use Rattle.xk_kernel.specs.Start.{start}
-
--- a state to which an order leads is one of a history
-module _ (asked : Asked) (p last : Point) (order : List Move) (matched : Matched p.state) (leads : leads_by asked p order ≡ Some last) where
-  played : IsPlayed asked order last.state.steps p last
-  played = orders_are_played asked order last.state.steps p last leads (omega arith)
-
-  there : (history (events_of asked order) last.state.steps p.state).machine ≡ last.state
-  there = ap (λ (h : History). h.machine) played.is
-
-  pub last_matched : Matched last.state
-  last_matched = subst Matched there (history_matched (events_of asked order) last.state.steps p.state matched)
-
-  pub last_reserved : IsReservedByThread p.state → IsReservedByThread last.state
-  last_reserved reserved =
-      subst IsReservedByThread there (history_reserved (events_of asked order) last.state.steps p.state matched reserved)
 
 module _ (s : Subject) (lawful : IsLawfulPlan (length s.file.items) s.plan) (can_start : All CanStart s.plan.procs) where
   booted : Matched (start s.plan s.file.items)

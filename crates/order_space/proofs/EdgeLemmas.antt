@@ -1,0 +1,45 @@
+-- Edges by choices, one after another; and by all choices at a point, those that leave its node.
+use Rattle.std.proofs.Common.{◌≡◌, ◌<◌, ◌+◌, ℕ, suc, List, [], ◌∷◌, ◌++◌, length, take, Option, Some, refl, sym, ap, subst, ◌∙◌, arith}
+use Rattle.std.specs.Prelude.{All, get_or, map}
+use Rattle.std.proofs.Math.Seq.{take-suc}
+use Rattle.std.proofs.lemmas.List.{map-append}
+use Rattle.std.proofs.lemmas.List.Elements.{All-append, All-cons, All-nil}
+use Rattle.node_laws.specs.declared.moves.Move.{Move}
+use Rattle.node_laws.specs.Moves.{Asked, Point}
+use Rattle.order_choices.specs.declared.choices.Choice.{Choice}
+use Rattle.order_choices.specs.Choosing.{choice_of}
+use Rattle.order_choices.specs.Edges.{AreEdgesBy, IsEdge}
+use Rattle.state_search.specs.declared.space.Successor.{Successor}
+
+module _ {Key : Type 0} (IsKey : Point → Key → Type 0) (asked : Asked) (p : Point) where
+  pub no_edges : (edges : List (Successor Move Key)) → edges ≡ [] → AreEdgesBy IsKey asked p [] edges
+  no_edges edges none =
+      let E : List (Successor Move Key) → Type 0 = λ es. AreEdgesBy IsKey asked p [] es in
+      let here : E [] = record { each = All-nil (IsEdge IsKey asked p); choices_are = refl } in
+      subst E (sym none) here
+
+  edge_added : (choices : List Choice) (choice : Choice) (edges more : List (Successor Move Key)) (edge : Successor Move Key)
+      → AreEdgesBy IsKey asked p choices edges → IsEdge IsKey asked p edge → choice_of edge.label ≡ choice → more ≡ edges ++ edge ∷ []
+      → AreEdgesBy IsKey asked p (choices ++ choice ∷ []) more
+  edge_added choices choice edges more edge by is same there =
+      let E : List (Successor Move Key) → Type 0 = λ es. AreEdgesBy IsKey asked p (choices ++ choice ∷ []) es in
+      let here : E (edges ++ edge ∷ []) = record {
+        each = All-append (IsEdge IsKey asked p) edges (edge ∷ []) by.each
+            (All-cons (IsEdge IsKey asked p) edge [] is (All-nil (IsEdge IsKey asked p)));
+        choices_are =
+            map-append (λ (e : Successor Move Key). choice_of e.label) edges (edge ∷ [])
+            ∙ (λ i. by.choices_are i ++ same i ∷ []);
+      } in
+      subst E (sym there) here
+
+  -- the edge by the next of these choices
+  pub next_edge : (choices : List Choice) (k : ℕ) (edges more : List (Successor Move Key)) (edge : Successor Move Key) (choice : Choice)
+      → k < length choices → choice ≡ get_or choices k choice → AreEdgesBy IsKey asked p (take k choices) edges
+      → IsEdge IsKey asked p edge → choice_of edge.label ≡ choice → more ≡ edges ++ edge ∷ []
+      → AreEdgesBy IsKey asked p (take (k + 1) choices) more
+  next_edge choices k edges more edge choice low read by is same there =
+      let E : List Choice → Type 0 = λ cs. AreEdgesBy IsKey asked p cs more in
+      let further : take (k + 1) choices ≡ take k choices ++ choice ∷ [] =
+      ap (λ (n : ℕ). take n choices) (let e : k + 1 ≡ suc k = omega arith in e)
+      ∙ (take-suc choices k choice low ∙ ap (λ (c : Choice). take k choices ++ c ∷ []) (sym read)) in
+      subst E (sym further) (edge_added (take k choices) choice edges more edge by is same there)
