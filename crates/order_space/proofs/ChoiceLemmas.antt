@@ -15,6 +15,7 @@ use Rattle.node_laws.specs.Moves.{Asked, Point, behind, is_at_bound, leads, may_
 use Rattle.order_choices.specs.declared.choices.Choice.{Choice}
 use Rattle.order_choices.specs.declared.choices.Choice.TheVariants.{Comes, Goes}
 use Rattle.order_choices.specs.Choosing.{choices_at, comes_at, events_at, turns_at}
+use Rattle.order_space.specs.Quests.{IsChoice}
 use Rattle.xk_base.specs.declared.ids.ThreadId.{ThreadId}
 use Rattle.xk_base.specs.Tables.Circle.{id_at, is_thread_id, listed_ids}
 use Rattle.xk_base.specs.Tables.Counting.{listed_below}
@@ -95,3 +96,19 @@ module _ (asked : Asked) (p : Point) where
           let from = contained_map Comes (events_at asked p) 0 (Comes k) event in
           let same : from.0 ≡ k = (let e : Comes from.0 ≡ Comes k = from.1.1 in cc) in
           subst (λ (i : ℕ). IsSome (leads asked p (Once i))) same (event_comes from.0 from.1.0)
+
+-- ---- as it stands at calls
+
+pub goes_at : (asked : Asked) (p : Point) (choice : Choice) (who : ThreadId) → IsChoice asked p choice → choice ≡ Goes who → MayGo asked p who
+goes_at asked p choice who is same = goes_there asked p who (subst (Contains (choices_at asked p)) same is.among)
+
+pub comes_at_once : (asked : Asked) (p : Point) (choice : Choice) (k : ℕ) → IsChoice asked p choice → choice ≡ Comes k
+    → IsSome (leads asked p (Once k))
+comes_at_once asked p choice k is same = comes_there asked p k (subst (Contains (choices_at asked p)) same is.among)
+
+-- one of all choices
+pub chosen : (asked : Asked) (p : Point) (choices : List Choice) (k : ℕ) (choice : Choice) → k < length choices → choice ≡ get_or choices k choice
+    → choices ≡ choices_at asked p → IsChoice asked p choice
+chosen asked p choices k choice low read all =
+    let at : Contains choices choice = (k, low, sym read) in
+    record { among = subst (λ (cs : List Choice). Contains cs choice) all at }

@@ -1,11 +1,13 @@
 -- Edges by choices, one after another; and by all choices at a point, those that leave its node.
-use Rattle.std.proofs.Common.{◌≡◌, ◌<◌, ◌+◌, ℕ, suc, List, [], ◌∷◌, ◌++◌, length, take, Option, Some, refl, sym, ap, subst, ◌∙◌, arith}
+use Rattle.std.proofs.Common.{◌≡◌, ◌<◌, ◌+◌, ℕ, suc, List, [], ◌∷◌, ◌++◌, length, take, Some, refl, sym, ap, subst, ◌∙◌, arith}
 use Rattle.std.specs.Prelude.{All, get_or, map}
 use Rattle.std.proofs.Math.Seq.{take-suc}
 use Rattle.std.proofs.lemmas.List.{map-append}
+use Rattle.std.proofs.lemmas.Option.{same_Some}
 use Rattle.std.proofs.lemmas.List.Elements.{All-append, All-cons, All-nil}
 use Rattle.node_laws.specs.declared.moves.Move.{Move}
-use Rattle.node_laws.specs.Moves.{Asked, Point}
+use Rattle.node_laws.specs.Moves.{Asked, Point, leads, leads_by}
+use Rattle.node_laws.specs.Nodes.{node_of}
 use Rattle.order_choices.specs.declared.choices.Choice.{Choice}
 use Rattle.order_choices.specs.Choosing.{choice_of}
 use Rattle.order_choices.specs.Edges.{AreEdgesBy, IsEdge}
@@ -43,3 +45,12 @@ module _ {Key : Type 0} (IsKey : Point → Key → Type 0) (asked : Asked) (p : 
       ap (λ (n : ℕ). take n choices) (let e : k + 1 ≡ suc k = omega arith in e)
       ∙ (take-suc choices k choice low ∙ ap (λ (c : Choice). take k choices ++ c ∷ []) (sym read)) in
       subst E (sym further) (edge_added (take k choices) choice edges more edge by is same there)
+
+-- an edge that was found at the end of an order
+pub edge_of : {Key : Type 0} (IsKey : Point → Key → Type 0) (asked : Asked) (start : Point) (order : List Move) (p here next : Point)
+    (edge : Successor Move Key) → leads_by asked start order ≡ Some p → leads_by asked start order ≡ Some here
+    → leads asked here edge.label ≡ Some next → IsKey (node_of asked next) edge.key → IsEdge IsKey asked p edge
+edge_of IsKey asked start order p here next edge at there led key =
+    let E : Point → Type 0 = λ x. IsEdge IsKey asked x edge in
+    let one : E here = record { next = next; leads_is = led; key = key } in
+    subst E (same_Some here p (sym there ∙ at)) one

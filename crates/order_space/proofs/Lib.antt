@@ -1,6 +1,9 @@
 mod BeforeLemmas
 mod ChoiceLemmas
 mod EdgeLemmas
+mod KeyLemmas
 mod OrderLemmas
 mod QuestLemmas
+mod RunLemmas
+mod SpaceLemmas
 mod StandLemmas

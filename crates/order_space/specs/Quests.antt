@@ -1,4 +1,5 @@
 -- Quests: which orders are searched, from which start.
+use Rattle.std.specs.List.{Contains}
 use Rattle.std.specs.Prelude.{◌≡◌, ℕ, false, List, Option, Some}
 use Rattle.event_player.specs.History.{History, run_of}
 use Rattle.machine_model.specs.State.Machine.{Machine}
@@ -6,7 +7,9 @@ use Rattle.node_keys.specs.Keys.{key_of}
 use Rattle.node_laws.specs.declared.moves.Move.{Move}
 use Rattle.node_laws.specs.Moves.{Asked, Point, bytes_of, leads_by}
 use Rattle.node_laws.specs.Nodes.{after, node_of}
+use Rattle.order_choices.specs.declared.choices.Choice.{Choice}
 use Rattle.order_choices.specs.Asking.{asked_of}
+use Rattle.order_choices.specs.Choosing.{choices_at}
 use Rattle.order_space.specs.declared.subject.Subject.{Subject}
 use Rattle.state_search.specs.Graph.{LeadsOn}
 use Rattle.xk_base.specs.declared.limits.TheConstants.{STEP_LIMIT}
@@ -46,3 +49,7 @@ IsPath q path = LeadsOn (next_node q) (first_node q) path
 -- the order leads to this point
 abbrev pub Arrives : Searching → List Move → Point → Type 0
 Arrives q order p = leads_by q.asked q.start order ≡ Some p
+
+-- the choice is one of those at the point
+pub record IsChoice (asked : Asked) (p : Point) (choice : Choice) : Type 0 where
+  pub among : Contains (choices_at asked p) choice

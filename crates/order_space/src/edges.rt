@@ -1,6 +1,6 @@
 //! The edges that leave a node.
 
-ghost use Rattle.std.specs.Prelude.{◌≡◌, ◌≤◌, Contains, IfOk, OnOk, Some, length, map};
+ghost use Rattle.std.specs.Prelude.{◌≡◌, ◌≤◌, IfOk, OnOk, Some, length, map};
 ghost use Rattle.suspend_image.specs.Sheets.{room_for};
 ghost use Rattle.xk_kernel.specs.Knowing.{IsTrusted};
 ghost use Rattle.xk_kernel.specs.Sound.{IsSound, IsUsable, Keeps};
@@ -12,7 +12,7 @@ ghost use Rattle.move_player.specs.Runs.{point_of};
 ghost use Rattle.order_choices.specs.Asking.{asked_of};
 ghost use Rattle.order_choices.specs.Choosing.{choice_of, choices_at};
 ghost use Rattle.order_choices.specs.Edges.{AreEdgesBy, IsEdge};
-ghost use Rattle.order_space.specs.Quests.{Arrives, IsKeyOf, IsPath, searching_of};
+ghost use Rattle.order_space.specs.Quests.{Arrives, IsChoice, IsKeyOf, IsPath, searching_of};
 
 use crate::quest::{OrderFault, Quest, no_memory, unplayed};
 use crate::runs::Run;
@@ -41,8 +41,7 @@ fn choose(orders: &Orders, run: &mut Run, choice: Choice) -> Result<Move, Unansw
     requires usable { IsUsable run.old.kernel }
     requires trusted { IsTrusted ⟦<SureStore as SwapStore>⟧ run.old.kernel }
     requires came { length run.old.trail.came.items ≡ length orders.now.once.items }
-    requires may { let p = point_of ⟦<SureStore as SwapStore>⟧ run.old.kernel run.old.trail in
-        Contains (choices_at (asked_of orders.now) p) choice }
+    requires may { IsChoice (asked_of orders.now) (point_of ⟦<SureStore as SwapStore>⟧ run.old.kernel run.old.trail) choice }
     ensures leads { let old = point_of ⟦<SureStore as SwapStore>⟧ run.old.kernel run.old.trail in
         let new = point_of ⟦<SureStore as SwapStore>⟧ run.new.kernel run.new.trail in
         IfOk result (λ next. leads (asked_of orders.now) old next ≡ Some new) }
@@ -99,7 +98,7 @@ impl Quest {
     ) -> Result<Successor<Move, [u8; 32]>, Unanswered<OrderFault>>
         requires path { IsPath (searching_of self.old.subject) path.now }
         requires may { let q = searching_of self.old.subject in
-            (p : Point) → Arrives q path.now p → Contains (choices_at q.asked p) choice }
+            (p : Point) → Arrives q path.now p → IsChoice q.asked p choice }
         ensures edge { let q = searching_of self.old.subject in
             (p : Point) → Arrives q path.now p → IfOk result (λ edge. IsEdge (IsKeyOf q) q.asked p edge) }
         ensures choice { IfOk result (λ edge. choice_of edge.label ≡ choice) }

@@ -42,6 +42,8 @@ impl Quest {
         ensures sound { IfOk result (λ kernel. IsSound ⟦<SureStore as SwapStore>⟧ kernel) }
         ensures usable { IfOk result (λ kernel. IsUsable kernel) }
         ensures trusted { IfOk result (λ kernel. IsTrusted ⟦<SureStore as SwapStore>⟧ kernel) }
+        ensures room { IfOk result (λ kernel. let m = machine_of ⟦<SureStore as SwapStore>⟧.held kernel in
+            room_for m.processes m.capacity ≤ self.now.sheet.room) }
     {
         let mut store = SureStore::new();
         let Ok(()) = store.prepare(self.alloc, self.subject.plan.slots, None) else {

@@ -63,7 +63,8 @@ impl Quest {
         ensures came { IfOk result (λ stand. length stand.trail.came.items ≡ length self.old.subject.orders.once.items) }
         ensures subject { self.new.subject ≡ self.old.subject }
     {
-        let Run { mut kernel, trail } = self.arrive(order)?;
+        let run = self.arrive(order)?;
+        let Run { mut kernel, trail } = run;
         if kernel.steps() > STEP_LIMIT {
             kernel.close();
             return Err(Unanswered::Fault(OrderFault::Steps));
@@ -83,8 +84,8 @@ impl Quest {
             (p : Point) → Arrives q path.now p → IfOk result (λ sight. IsSeen q.asked p sight.choices.items sight.note) }
         ensures subject { self.new.subject ≡ self.old.subject }
     {
-        let Stand { state, trail } = self.stand(path)?;
-        match see(self.alloc, &self.subject.orders, &state, &trail) {
+        let stand = self.stand(path)?;
+        match see(self.alloc, &self.subject.orders, &stand.state, &stand.trail) {
             Ok(sight) => Ok(sight),
             Err(Unseen::Memory) => Err(no_memory()),
             Err(Unseen::Timer) => Err(Unanswered::Fault(OrderFault::Timer)),

@@ -1,0 +1,70 @@
+-- Runs of orders: where they begin, and the room that their states have.
+use Rattle.std.proofs.Common.{◌≡◌, ◌≤◌, ◌∙◌, ℕ, zero, suc, Bool, false, List, [], ◌∷◌, length, refl, sym, ap, subst, arith}
+use Rattle.std.specs.Prelude.{get_or, replicate}
+use Rattle.boot_plan.specs.Capacity.{capacity}
+use Rattle.boot_plan.specs.declared.plans.BootPlan.{BootPlan}
+use Rattle.event_player.specs.History.{History, run_of}
+use Rattle.machine_model.specs.State.Machine.{Machine}
+use Rattle.node_laws.specs.Moves.{Point, bytes_of}
+use Rattle.order_choices.specs.Asking.{came_of}
+use Rattle.order_space.specs.declared.subject.Subject.{Subject}
+use Rattle.order_space.specs.Quests.{start_of}
+use Rattle.suspend_image.specs.Sheets.{room_for}
+use Rattle.sv32_space.specs.Tie.{Held}
+use Rattle.vm_memory.specs.Memory.{Size, size}
+use Rattle.xk_base.specs.declared.limits.TheConstants.{STEP_LIMIT}
+use Rattle.xk_kernel.specs.Sound.{Keeps}
+use Rattle.xk_kernel.specs.Start.{start}
+use Rattle.xk_kernel.specs.State.{machine_of}
+use Rattle.xk_kernel.specs.declared.kernel.Kernel.{Kernel}
+use Rattle.xk_ports.specs.declared.store.SwapStore.{Ghosts as SwapStore}
+
+-- ---- room
+
+abbrev fits : ℕ → Size → Type 0
+fits room s = room_for s.procs (capacity s.area.frames s.procs s.slots) ≤ room
+
+pub room_here : {W : Type 0} (held : W → Held) (k : Kernel W) (s : Size) (room : ℕ) → size k.mem ≡ s → fits room s
+    → room_for (machine_of held k).processes (machine_of held k).capacity ≤ room
+unfolding machine_of
+room_here held k s room is within = subst (fits room) (sym is) within
+
+pub room_kept : {W : Type 0} {S : SwapStore W} {old new : Kernel W} (room : ℕ) → Keeps S old new
+    → room_for (machine_of S.held old).processes (machine_of S.held old).capacity ≤ room
+    → room_for (machine_of S.held new).processes (machine_of S.held new).capacity ≤ room
+unfolding machine_of
+room_kept room keeps within = subst (fits room) (sym keeps.size) within
+
+-- ---- the start
+
+-- no step was done at the start of a plan
+pub starts_low : (m : Machine) (plan : BootPlan) (file : List ℕ) → m ≡ start plan file → m.steps ≤ STEP_LIMIT
+unfolding start
+starts_low m plan file is =
+    let L : ℕ → Type 0 = λ n. n ≤ STEP_LIMIT in
+    let low : L 0 = omega arith in
+    subst L (sym (ap (λ (x : Machine). x.steps) is)) low
+
+-- no event came
+none_came : (n k : ℕ) → get_or (replicate n false) k false ≡ false
+none_came zero k = refl
+none_came (suc n) zero = refl
+none_came (suc n) (suc k) = none_came n k
+
+abbrev here : Machine → List ℕ → List Bool → Point
+here m console came = record { state = m; console = console; came = came_of came }
+
+-- a run whose events before were played is at the start of orders
+pub begun : (s : Subject) (booted m : Machine) (events console : List ℕ) (came : List Bool) → booted ≡ start s.plan s.file.items
+    → events ≡ s.before.items → m ≡ (run_of STEP_LIMIT booted events).machine
+    → console ≡ bytes_of (run_of STEP_LIMIT booted events).records → came ≡ replicate (length s.orders.once.items) false
+    → here m console came ≡ start_of s
+unfolding start_of
+begun s booted m events console came is same there told none =
+    let h : run_of STEP_LIMIT booted events ≡ run_of STEP_LIMIT (start s.plan s.file.items) s.before.items =
+    λ i. run_of STEP_LIMIT (is i) (same i) in
+    let state : m ≡ (run_of STEP_LIMIT (start s.plan s.file.items) s.before.items).machine = there ∙ ap (λ (x : History). x.machine) h in
+    let bytes : console ≡ bytes_of (run_of STEP_LIMIT (start s.plan s.file.items) s.before.items).records =
+    told ∙ ap (λ (x : History). bytes_of x.records) h in
+    let all : came_of came ≡ (λ (k : ℕ). false) = ap came_of none ∙ (λ i k. none_came (length s.orders.once.items) k i) in
+    λ i. record { state = state i; console = bytes i; came = all i }
