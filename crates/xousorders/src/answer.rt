@@ -1,18 +1,10 @@
 //! What is told of a search.
 
+use crate::endings::{Ending, Endings, count_looks};
 use crate::seen::{put, put_number};
 use node_laws::Move;
 use state_search::{Cut, Extent};
 use std::alloc::AllocError;
-
-/// Endings that look alike.
-#[derive(Drop)]
-pub struct Ending {
-    pub seen: Vec<u8>,
-    /// The shortest order to one of them.
-    pub order: Vec<Move>,
-    pub nodes: u64,
-}
 
 /// A number with its noun.
 fn put_counted(text: &mut Vec<u8>, count: u64, noun: &[u8]) -> Result<(), AllocError> {
@@ -35,26 +27,6 @@ fn slices_of(order: &[Move]) -> u64 {
     slices
 }
 
-/// An ending that looks like an earlier one is counted with it.
-pub fn add_ending(
-    endings: &mut Vec<Ending>,
-    seen: Vec<u8>,
-    order: Vec<Move>,
-) -> Result<(), AllocError> {
-    for ending in endings.iter_mut() {
-        if ending.seen == seen {
-            ending.nodes = ending.nodes.saturating_add(1);
-            return Ok(());
-        }
-    }
-    endings.push(Ending {
-        seen,
-        order,
-        nodes: 1,
-    })?;
-    Ok(())
-}
-
 /// The line of how much was searched.
 pub fn put_extent(
     text: &mut Vec<u8>,
@@ -72,22 +44,33 @@ pub fn put_extent(
     }
 }
 
+/// The line of an ending, of which so many nodes look alike.
+fn put_ending(
+    text: &mut Vec<u8>,
+    number: u64,
+    ending: &Ending,
+    nodes: u64,
+) -> Result<(), AllocError> {
+    put(text, b"ending ")?;
+    put_number(text, number)?;
+    put(text, b": ")?;
+    put(text, &ending.seen)?;
+    put(text, b"; ")?;
+    put_counted(text, nodes, b"node")?;
+    put(text, b"; ")?;
+    put_counted(text, slices_of(&ending.order), b"slice")?;
+    text.push(b'\n')?;
+    Ok(())
+}
+
 /// The lines of the endings, and of how many there are.
-pub fn put_endings(text: &mut Vec<u8>, endings: &[Ending]) -> Result<(), AllocError> {
-    let mut number = 0u64;
-    for ending in endings {
-        number = number.saturating_add(1);
-        put(text, b"ending ")?;
-        put_number(text, number)?;
-        put(text, b": ")?;
-        put(text, &ending.seen)?;
-        put(text, b"; ")?;
-        put_counted(text, ending.nodes, b"node")?;
-        put(text, b"; ")?;
-        put_counted(text, slices_of(&ending.order), b"slice")?;
-        text.push(b'\n')?;
+pub fn put_endings(text: &mut Vec<u8>, endings: &Endings) -> Result<(), AllocError> {
+    for place in 0..endings.list.len() {
+        let nodes = count_looks(&endings.looks, place);
+        let number = (place as u64).saturating_add(1);
+        put_ending(text, number, &endings.list[place], nodes)?;
     }
-    put_counted(text, number, b"ending")?;
+    put_counted(text, endings.list.len() as u64, b"ending")?;
     text.push(b'\n')?;
     Ok(())
 }

@@ -1,6 +1,6 @@
 //! Orders are written as event files.
 
-use crate::answer::Ending;
+use crate::endings::Ending;
 use crate::status::Status;
 use event_lines::event_file;
 use node_laws::Move;

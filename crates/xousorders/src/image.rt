@@ -1,5 +1,9 @@
 //! The image and the events before are read.
 
+ghost use Rattle.std.specs.Prelude.{◌≤◌, All, IfOk, length};
+ghost use Rattle.boot_plan.specs.Lawful.{CanStart, IsLawfulPlan};
+ghost use Rattle.xk_base.specs.declared.limits.TheConstants.{IMAGE_LIMIT};
+
 use crate::status::Status;
 use boot_plan::{BootPlan, PlanError, TOO_LONG, plan};
 use host_io::{Content, ReadError, read_file};
@@ -9,7 +13,11 @@ use xk_base::limits::{EVENT_FILE_LIMIT, IMAGE_LIMIT};
 use xk_ports::{FileSlot, Host};
 
 /// The plan of the image of these bytes.
-pub fn plan_bytes(alloc: Global, bytes: &[u8]) -> Result<BootPlan, Status> {
+pub fn plan_bytes(alloc: Global, bytes: &[u8]) -> Result<BootPlan, Status>
+    requires { length bytes.now ≤ IMAGE_LIMIT }
+    ensures lawful { IfOk result (λ plan. IsLawfulPlan (length bytes.now) plan) }
+    ensures can_start { IfOk result (λ plan. All CanStart plan.procs) }
+{
     let args = match read_args(alloc, bytes) {
         Ok(args) => args,
         Err(ArgsError::Fault(fault)) => return Err(Status::ImageFault(fault)),
@@ -23,7 +31,9 @@ pub fn plan_bytes(alloc: Global, bytes: &[u8]) -> Result<BootPlan, Status> {
 }
 
 /// The bytes of the image of that name.
-pub fn read_image<H: Host>(alloc: Global, host: &mut H, name: &str) -> Result<Vec<u8>, Status> {
+pub fn read_image<H: Host>(alloc: Global, host: &mut H, name: &str) -> Result<Vec<u8>, Status>
+    ensures { IfOk result (λ bytes. length bytes.items ≤ IMAGE_LIMIT) }
+{
     match read_file(alloc, host, FileSlot::First, name, IMAGE_LIMIT as usize) {
         Ok(Content::Whole(bytes)) => Ok(bytes),
         Ok(Content::TooLong) => Err(Status::ImageFault(ArgFault {

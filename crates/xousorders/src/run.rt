@@ -1,28 +1,33 @@
 //! A search is made and told.
 
-use crate::answer::{Ending, add_ending, put_endings, put_extent};
+ghost use Rattle.std.specs.Prelude.{◌≡◌, ◌≤◌, IfOk, length};
+ghost use Rattle.node_laws.specs.Searches.{IsSound};
+ghost use Rattle.order_space.specs.Found.{DigestsTell, TellsAllOrders, TellsOrders, telling_of};
+ghost use Rattle.order_space.specs.Quests.{searching_of};
+ghost use Rattle.xousorders.specs.Endings.{TellsAllEndings, TellsEndings};
+ghost use Rattle.xousorders.specs.Searched.{IsSearched};
+
+use crate::answer::{put_endings, put_extent};
+use crate::endings::{Endings, endings_of};
 use crate::files::write_files;
 use crate::image::{plan_bytes, read_events, read_image};
-use crate::seen::put_seen;
-use crate::status::Status;
+use crate::status::{Status, stopped};
 use crate::watching::Teller;
 use crate::words::Words;
 use node_laws::{Move, Note};
 use order_choices::Orders;
-use order_space::{OrderFault, Quest, Stand, Subject, search_orders};
-use state_search::{Found, Unanswered, Watch, path_to};
+use order_space::{OrderFault, Quest, Subject, search_orders};
+use state_search::{Extent, Found, Watch};
 use std::alloc::Global;
 use std::rt::{Clock, Files};
 use xk_base::Event;
-use xk_base::limits::STEP_LIMIT;
 use xk_ports::{Host, Sink, put_all};
 
-/// How the program ends where orders aren't searched on.
-fn stopped(fault: OrderFault) -> Status {
-    match fault {
-        OrderFault::Steps | OrderFault::Timer => Status::StepLimit(STEP_LIMIT),
-        OrderFault::Line(line) => Status::EventFault(line),
-    }
+/// The nodes that a search found, and the endings among them.
+#[derive(Drop)]
+struct Told {
+    found: Found<Move, Note>,
+    endings: Endings,
 }
 
 /// The search without a bound of steps, or with one where a process claims the timer's interrupt.
@@ -32,7 +37,16 @@ fn search_all<W: Watch>(
     states: usize,
     steps: u32,
     watch: &mut W,
-) -> Result<Found<Move, Note>, Status> {
+) -> Result<Found<Move, Note>, Status>
+    ensures found { let q = searching_of quest.new.subject in
+        IfOk result (λ found. IsSound (telling_of q found.edges.items found.notes.items)) }
+    ensures sound { let q = searching_of quest.new.subject in
+        IfOk result (λ found. TellsOrders (telling_of q found.edges.items found.notes.items)) }
+    ensures whole { let q = searching_of quest.new.subject in
+        IfOk result (λ found. found.extent ≡ Extent.Whole → DigestsTell q ⟦<[u8; 32] as Ord>⟧.cmp
+        → TellsAllOrders (telling_of q found.edges.items found.notes.items)) }
+    ensures subject { IsSearched steps quest.old.subject quest.new.subject }
+{
     match search_orders(alloc, quest, states, watch) {
         Ok(found) => return Ok(found),
         Err(OrderFault::Timer) => {}
@@ -45,39 +59,25 @@ fn search_all<W: Watch>(
     }
 }
 
-/// The ending of this number is seen, and told with those that look alike.
-fn see_ending(
+/// The search, and the endings that it found. The order of each ending that is told leads where orders end; and where the search is
+/// whole, and no two nodes have one digest, it is told wherever an order ends.
+fn search_endings<W: Watch>(
     alloc: Global,
     quest: &mut Quest,
-    found: &Found<Move, Note>,
-    number: usize,
-    endings: &mut Vec<Ending>,
-) -> Result<(), Status> {
-    let order = path_to(alloc, &found.edges, number)?;
-    let Stand { state, trail } = match quest.stand(&order) {
-        Ok(stand) => stand,
-        Err(Unanswered::Memory(_)) => return Err(Status::NoMemory),
-        Err(Unanswered::Fault(fault)) => return Err(stopped(fault)),
-    };
-    let mut seen = Vec::new(alloc);
-    put_seen(&mut seen, &state, &trail.console)?;
-    add_ending(endings, seen, order)?;
-    Ok(())
-}
-
-/// The endings, of those that look alike the shortest.
-fn endings_of(
-    alloc: Global,
-    quest: &mut Quest,
-    found: &Found<Move, Note>,
-) -> Result<Vec<Ending>, Status> {
-    let mut endings = Vec::new(alloc);
-    for number in 0..found.notes.len() {
-        if found.notes[number] == Note::Ending {
-            see_ending(alloc, quest, found, number, &mut endings)?;
-        }
-    }
-    Ok(endings)
+    states: usize,
+    steps: u32,
+    watch: &mut W,
+) -> Result<Told, Status>
+    ensures sound { let q = searching_of quest.new.subject in
+        IfOk result (λ told. TellsEndings (telling_of q told.found.edges.items told.found.notes.items) told.endings) }
+    ensures whole { let q = searching_of quest.new.subject in
+        IfOk result (λ told. told.found.extent ≡ Extent.Whole → DigestsTell q ⟦<[u8; 32] as Ord>⟧.cmp
+        → TellsAllEndings (telling_of q told.found.edges.items told.found.notes.items) told.endings) }
+    ensures subject { IsSearched steps quest.old.subject quest.new.subject }
+{
+    let found = search_all(alloc, quest, states, steps, watch)?;
+    let endings = endings_of(alloc, quest, &found)?;
+    Ok(Told { found, endings })
 }
 
 /// The lines of what was found.
@@ -85,7 +85,7 @@ fn lines_of(
     alloc: Global,
     quest: &Quest,
     found: &Found<Move, Note>,
-    endings: &[Ending],
+    endings: &Endings,
 ) -> Result<Vec<u8>, Status> {
     let mut text = Vec::new(alloc);
     let states = (found.edges.len() as u64).saturating_add(1);
@@ -102,7 +102,9 @@ fn quest_of<H: Host>(
     before: Option<&str>,
     quantum: u32,
     once: Vec<Event>,
-) -> Result<Quest, Status> {
+) -> Result<Quest, Status>
+    requires { length once.items ≤ 255 }
+{
     let file = read_image(alloc, host, image)?;
     let plan = plan_bytes(alloc, &file)?;
     let before = read_events(alloc, host, before)?;
@@ -132,7 +134,9 @@ fn tell<R: Files + Clock, H: Host, K: Sink, N: Sink>(
     out: &mut K,
     notes: &mut N,
     is_seen: bool,
-) -> Result<Status, Status> {
+) -> Result<Status, Status>
+    requires { length words.once.items ≤ 255 }
+{
     let Words {
         image,
         quantum,
@@ -145,16 +149,28 @@ fn tell<R: Files + Clock, H: Host, K: Sink, N: Sink>(
     } = words;
     let mut quest = quest_of(alloc, host, image, before, quantum, once)?;
     let mut teller = Teller::new(rt, notes, is_seen);
-    let found = search_all(alloc, &mut quest, states as usize, steps, &mut teller)?;
-    let endings = endings_of(alloc, &mut quest, &found)?;
+    let Told { found, endings } = search_endings(
+        alloc,
+        &mut quest,
+        states as usize,
+        steps,
+        &mut teller,
+    )?;
     let text = lines_of(alloc, &quest, &found, &endings)?;
     if let Some(folder) = folder {
-        write_files(rt, alloc, folder, quest.before(), quest.once(), &endings)?;
+        write_files(
+            rt,
+            alloc,
+            folder,
+            quest.before(),
+            quest.once(),
+            &endings.list,
+        )?;
     }
     if put_all(out, &text).is_err() {
         return Err(Status::WriteFault);
     }
-    if one && endings.len() > 1 {
+    if one && endings.list.len() > 1 {
         return Ok(Status::Several);
     }
     Ok(Status::Done)
@@ -169,7 +185,9 @@ pub fn run<R: Files + Clock, H: Host, K: Sink, N: Sink>(
     out: &mut K,
     notes: &mut N,
     is_seen: bool,
-) -> Status {
+) -> Status
+    requires { length words.once.items ≤ 255 }
+{
     match tell(rt, alloc, words, host, out, notes, is_seen) {
         Ok(status) => status,
         Err(status) => status,

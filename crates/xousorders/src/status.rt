@@ -1,7 +1,9 @@
 //! How the program ends.
 
 use kernel_args::ArgFault;
+use order_space::OrderFault;
 use std::alloc::AllocError;
+use xk_base::limits::STEP_LIMIT;
 
 /// How a call ends.
 #[derive(Clone, Copy, Debug, PartialEq, Eq)]
@@ -46,5 +48,13 @@ impl Status {
 impl From<AllocError> for Status {
     fn from(_error: AllocError) -> Status {
         Status::NoMemory
+    }
+}
+
+/// How the program ends where orders aren't searched on.
+pub fn stopped(fault: OrderFault) -> Status {
+    match fault {
+        OrderFault::Steps | OrderFault::Timer => Status::StepLimit(STEP_LIMIT),
+        OrderFault::Line(line) => Status::EventFault(line),
     }
 }

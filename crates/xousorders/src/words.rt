@@ -1,7 +1,6 @@
 //! The words of the command line.
 
-ghost use Rattle.std.specs.Prelude.{◌≡◌, ◌≤◌, ◌<◌, IfOk, IfSome, length};
-ghost use Rattle.xk_base.specs.declared.limits.TheConstants.{STEP_LIMIT};
+ghost use Rattle.std.specs.Prelude.{◌≤◌, IfOk, IfSome, length};
 
 use event_text::read_digits;
 use std::alloc::{AllocError, Global};
@@ -94,14 +93,11 @@ fn name<'a>(to: &mut Option<&'a str>, word: &'a str) -> Result<(), Unread> {
     Ok(())
 }
 
-/// An event is added to those that may come, where it is one and they are few.
+/// An event is added to those that may come, where it is one.
 fn add(once: &mut Vec<Event>, event: Option<Event>) -> Result<(), Unread> {
     let Some(event) = event else {
         return Err(Unread::Usage);
     };
-    if once.len() >= ONCE_LIMIT {
-        return Err(Unread::Usage);
-    }
     match once.push(event) {
         Ok(()) => Ok(()),
         Err(_) => Err(Unread::NoMemory),
@@ -154,8 +150,10 @@ fn no_words<'a>(alloc: Global) -> Words<'a> {
     }
 }
 
-/// Reads the words.
-pub fn read_words<'a>(alloc: Global, all: &'a [String]) -> Result<Words<'a>, Unread> {
+/// Reads the words. Few events may come once.
+pub fn read_words<'a>(alloc: Global, all: &'a [String]) -> Result<Words<'a>, Unread>
+    ensures { IfOk result (λ words. length words.once.items ≤ 255) }
+{
     let mut words = no_words(alloc);
     let mut image = None;
     let mut waiting = None;
@@ -172,11 +170,12 @@ pub fn read_words<'a>(alloc: Global, all: &'a [String]) -> Result<Words<'a>, Unr
             },
         }
     }
-    match (image, waiting) {
-        (Some(image), None) => {
-            words.image = image;
-            Ok(words)
-        }
-        _ => Err(Unread::Usage),
+    let (Some(image), None) = (image, waiting) else {
+        return Err(Unread::Usage);
+    };
+    if words.once.len() > ONCE_LIMIT {
+        return Err(Unread::Usage);
     }
+    words.image = image;
+    Ok(words)
 }
