@@ -1,5 +1,8 @@
 //! What is told of a search.
 
+ghost use Rattle.std.specs.Prelude.{◌≡◌, ◌++◌, decimal, OnOk};
+ghost use Rattle.xousorders.specs.Lines.{counted, ending_line, extent_line, slices_in};
+
 use crate::endings::{Ending, Endings, count_looks};
 use crate::seen::{put, put_number};
 use node_laws::Move;
@@ -7,7 +10,9 @@ use state_search::{Cut, Extent};
 use std::alloc::AllocError;
 
 /// A number with its noun.
-fn put_counted(text: &mut Vec<u8>, count: u64, noun: &[u8]) -> Result<(), AllocError> {
+fn put_counted(text: &mut Vec<u8>, count: u64, noun: &[u8]) -> Result<(), AllocError>
+    ensures { OnOk result (text.new.items ≡ text.old.items ++ counted count noun.now) }
+{
     put_number(text, count)?;
     text.push(b' ')?;
     put(text, noun)?;
@@ -17,14 +22,14 @@ fn put_counted(text: &mut Vec<u8>, count: u64, noun: &[u8]) -> Result<(), AllocE
     Ok(())
 }
 
-fn slices_of(order: &[Move]) -> u64 {
-    let mut slices = 0u64;
-    for next in order {
-        if let Move::Slice(_, _) = next {
-            slices = slices.saturating_add(1);
-        }
-    }
-    slices
+/// How many slices an order has.
+fn slices_of(order: &[Move]) -> u64
+    ensures { result ≡ slices_in order.now }
+{
+    order
+        .iter()
+        .filter(|next| matches!(next, Move::Slice(_, _)))
+        .count() as u64
 }
 
 /// The line of how much was searched.
@@ -33,7 +38,9 @@ pub fn put_extent(
     states: u64,
     slices: u64,
     extent: Extent,
-) -> Result<(), AllocError> {
+) -> Result<(), AllocError>
+    ensures { OnOk result (text.new.items ≡ text.old.items ++ extent_line states slices extent) }
+{
     put(text, b"states ")?;
     put_number(text, states)?;
     put(text, b" slices ")?;
@@ -50,7 +57,10 @@ fn put_ending(
     number: u64,
     ending: &Ending,
     nodes: u64,
-) -> Result<(), AllocError> {
+) -> Result<(), AllocError>
+    ensures { OnOk result (text.new.items
+        ≡ text.old.items ++ ending_line number ending.now.seen.items nodes ending.now.order.items) }
+{
     put(text, b"ending ")?;
     put_number(text, number)?;
     put(text, b": ")?;

@@ -1,5 +1,7 @@
 //! What is seen of an ending, as text: the console, who lives, and for what each thread waits.
 
+ghost use Rattle.std.specs.Prelude.{◌≡◌, ◌++◌, decimal, OnOk};
+
 use itoa::Buffer;
 use state_rows::{MessageRow, ServerRow, State, ThreadRow};
 use std::alloc::AllocError;
@@ -15,12 +17,16 @@ const JOINING: u32 = 3;
 const IDLE: u32 = 4;
 
 /// Appends text.
-pub fn put(text: &mut Vec<u8>, more: &[u8]) -> Result<(), AllocError> {
+pub fn put(text: &mut Vec<u8>, more: &[u8]) -> Result<(), AllocError>
+    ensures { OnOk result (text.new.items ≡ text.old.items ++ more.now) }
+{
     text.extend_from_slice(more)
 }
 
 /// Appends a number in decimal.
-pub fn put_number(text: &mut Vec<u8>, number: u64) -> Result<(), AllocError> {
+pub fn put_number(text: &mut Vec<u8>, number: u64) -> Result<(), AllocError>
+    ensures { OnOk result (text.new.items ≡ text.old.items ++ decimal number) }
+{
     let mut buffer = Buffer::new();
     put(text, buffer.format(number).as_bytes())
 }
