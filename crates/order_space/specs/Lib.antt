@@ -1,2 +1,3 @@
+pub mod Booted
 pub mod Found
 pub mod Quests

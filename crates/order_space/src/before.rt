@@ -3,7 +3,10 @@
 ghost use Rattle.std.specs.Prelude.{◌≡◌, ◌≤◌, ◌∷◌, [], IfOk, OnOk, Some};
 ghost use Rattle.xk_base.specs.declared.limits.TheConstants.{STEP_LIMIT};
 ghost use Rattle.node_laws.specs.Moves.{bytes_of};
+ghost use Rattle.event_player.specs.Gathering.{Text};
 ghost use Rattle.event_player.specs.History.{run_of};
+ghost use Rattle.event_player.specs.Standing.{Begins, stand};
+ghost use Rattle.machine_model.specs.State.Machine.{Machine};
 ghost use Rattle.xk_kernel.specs.Knowing.{IsTrusted};
 ghost use Rattle.xk_kernel.specs.Sound.{IsSound, IsUsable, Keeps};
 ghost use Rattle.xk_kernel.specs.State.{machine_of};
@@ -60,10 +63,9 @@ pub(crate) fn play_before(
     requires usable { IsUsable kernel.old }
     requires trusted { IsTrusted ⟦<SureStore as SwapStore>⟧ kernel.old }
     requires within { (machine_of ⟦<SureStore as SwapStore>⟧.held kernel.old).steps ≤ STEP_LIMIT }
-    ensures machine { let held = ⟦<SureStore as SwapStore>⟧.held in
-        OnOk result (machine_of held kernel.new ≡ (run_of STEP_LIMIT (machine_of held kernel.old) events.now).machine) }
-    ensures console { let held = ⟦<SureStore as SwapStore>⟧.held in
-        IfOk result (λ console. console.items ≡ bytes_of (run_of STEP_LIMIT (machine_of held kernel.old) events.now).records) }
+    ensures plays { let S = ⟦<SureStore as SwapStore>⟧ in
+        (m : Machine) → ((text : Text) → Begins m (stand S kernel.old text)) → let h = run_of STEP_LIMIT m events.now in
+        IfOk result (λ console. (machine_of S.held kernel.new ≡ h.machine) × (console.items ≡ bytes_of h.records)) }
     ensures sound { IsSound ⟦<SureStore as SwapStore>⟧ kernel.new }
     ensures usable { OnOk result (IsUsable kernel.new) }
     ensures keeps { Keeps ⟦<SureStore as SwapStore>⟧ kernel.old kernel.new }

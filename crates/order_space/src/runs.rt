@@ -4,9 +4,9 @@ ghost use Rattle.std.specs.Prelude.{◌≡◌, ◌≤◌, IfOk, OnOk, length};
 ghost use Rattle.suspend_image.specs.Sheets.{room_for};
 ghost use Rattle.xk_kernel.specs.Knowing.{IsTrusted};
 ghost use Rattle.xk_kernel.specs.Sound.{IsSound, IsUsable, Keeps};
-ghost use Rattle.xk_kernel.specs.Start.{start};
 ghost use Rattle.xk_kernel.specs.State.{machine_of};
 ghost use Rattle.move_player.specs.Runs.{point_of};
+ghost use Rattle.order_space.specs.Booted.{IsBooted};
 ghost use Rattle.order_space.specs.Quests.{Arrives, IsPath, searching_of, start_of};
 
 use crate::before::play_before;
@@ -37,8 +37,7 @@ impl Run {
 impl Quest {
     /// The image is booted.
     fn boot(&self) -> Result<Kernel<SureStore>, Unanswered<OrderFault>>
-        ensures machine { let held = ⟦<SureStore as SwapStore>⟧.held in
-            IfOk result (λ kernel. machine_of held kernel ≡ start self.now.subject.plan self.now.subject.file.items) }
+        ensures booted { IfOk result (λ kernel. IsBooted ⟦<SureStore as SwapStore>⟧ self.now.subject kernel) }
         ensures sound { IfOk result (λ kernel. IsSound ⟦<SureStore as SwapStore>⟧ kernel) }
         ensures usable { IfOk result (λ kernel. IsUsable kernel) }
         ensures trusted { IfOk result (λ kernel. IsTrusted ⟦<SureStore as SwapStore>⟧ kernel) }
@@ -57,7 +56,7 @@ impl Quest {
 
     /// The events before are played on the booted image.
     fn begin(&self, kernel: &mut Kernel<SureStore>) -> Result<Trail, Unanswered<OrderFault>>
-        requires machine { machine_of ⟦<SureStore as SwapStore>⟧.held kernel.old ≡ start self.now.subject.plan self.now.subject.file.items }
+        requires booted { IsBooted ⟦<SureStore as SwapStore>⟧ self.now.subject kernel.old }
         requires sound { IsSound ⟦<SureStore as SwapStore>⟧ kernel.old }
         requires usable { IsUsable kernel.old }
         requires trusted { IsTrusted ⟦<SureStore as SwapStore>⟧ kernel.old }
@@ -81,7 +80,7 @@ impl Quest {
         order: &[Move],
     ) -> Result<Trail, Unanswered<OrderFault>>
         requires path { IsPath (searching_of self.now.subject) order.now }
-        requires machine { machine_of ⟦<SureStore as SwapStore>⟧.held kernel.old ≡ start self.now.subject.plan self.now.subject.file.items }
+        requires booted { IsBooted ⟦<SureStore as SwapStore>⟧ self.now.subject kernel.old }
         requires sound { IsSound ⟦<SureStore as SwapStore>⟧ kernel.old }
         requires usable { IsUsable kernel.old }
         requires trusted { IsTrusted ⟦<SureStore as SwapStore>⟧ kernel.old }
