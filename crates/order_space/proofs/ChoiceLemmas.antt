@@ -24,14 +24,14 @@ use Rattle.xk_base.proofs.CountingLemmas.{listed_below-passes}
 
 -- ---- lists
 
+same_read : {A : Type 0} (xs : List A) (i : ℕ) (d : A) → i < length xs → get_or xs i (get_or xs i d) ≡ get_or xs i d
+same_read xs i d low = get_or_from_slice_get xs i (get_or xs i d) (get_or xs i d) (slice_get-get_or xs i d low)
+
 -- an element of a mapped list comes of one of the list
 contained_map : {A B : Type 0} (f : A → B) (xs : List A) (d : A) (y : B) → Contains (map f xs) y → (x : A) × (Contains xs x × (f x ≡ y))
 contained_map f xs d y at =
     let within : at.0 < length xs = rw (← length-map xs f) at.1 in
     (get_or xs at.0 d, ((at.0, within, same_read xs at.0 d within), sym (get_or-map f xs at.0 d y within) ∙ at.2))
-  where
-    same_read : {A : Type 0} (xs : List A) (i : ℕ) (d : A) → i < length xs → get_or xs i (get_or xs i d) ≡ get_or xs i d
-    same_read xs i d low = get_or_from_slice_get xs i (get_or xs i d) (get_or xs i d) (slice_get-get_or xs i d low)
 
 contained_passes : {A : Type 0} (P : A → Type 0) (xs : List A) (x : A) → All P xs → Contains xs x → P x
 contained_passes P xs x all at = subst P at.2 (All-get_or P xs at.0 x at.1 all)
@@ -107,8 +107,8 @@ pub comes_at_once : (asked : Asked) (p : Point) (choice : Choice) (k : ℕ) → 
 comes_at_once asked p choice k is same = comes_there asked p k (subst (Contains (choices_at asked p)) same is.among)
 
 -- one of all choices
-pub chosen : (asked : Asked) (p : Point) (choices : List Choice) (k : ℕ) (choice : Choice) → k < length choices → choice ≡ get_or choices k choice
-    → choices ≡ choices_at asked p → IsChoice asked p choice
-chosen asked p choices k choice low read all =
-    let at : Contains choices choice = (k, low, sym read) in
-    record { among = subst (λ (cs : List Choice). Contains cs choice) all at }
+pub chosen : (asked : Asked) (p : Point) (choices : List Choice) (k : ℕ) (d : Choice) → k < length choices → choices ≡ choices_at asked p
+    → IsChoice asked p (get_or choices k d)
+chosen asked p choices k d low all =
+    let at : Contains choices (get_or choices k d) = (k, low, same_read choices k d low) in
+    record { among = subst (λ (cs : List Choice). Contains cs (get_or choices k d)) all at }

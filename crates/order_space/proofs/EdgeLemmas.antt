@@ -35,16 +35,15 @@ module _ {Key : Type 0} (IsKey : Point → Key → Type 0) (asked : Asked) (p : 
       subst E (sym there) here
 
   -- the edge by the next of these choices
-  pub next_edge : (choices : List Choice) (k : ℕ) (edges more : List (Successor Move Key)) (edge : Successor Move Key) (choice : Choice)
-      → k < length choices → choice ≡ get_or choices k choice → AreEdgesBy IsKey asked p (take k choices) edges
-      → IsEdge IsKey asked p edge → choice_of edge.label ≡ choice → more ≡ edges ++ edge ∷ []
-      → AreEdgesBy IsKey asked p (take (k + 1) choices) more
-  next_edge choices k edges more edge choice low read by is same there =
+  pub next_edge : (choices : List Choice) (k : ℕ) (edges more : List (Successor Move Key)) (edge : Successor Move Key) (d : Choice)
+      → k < length choices → AreEdgesBy IsKey asked p (take k choices) edges → IsEdge IsKey asked p edge
+      → choice_of edge.label ≡ get_or choices k d → more ≡ edges ++ edge ∷ [] → AreEdgesBy IsKey asked p (take (k + 1) choices) more
+  next_edge choices k edges more edge d low by is same there =
       let E : List Choice → Type 0 = λ cs. AreEdgesBy IsKey asked p cs more in
-      let further : take (k + 1) choices ≡ take k choices ++ choice ∷ [] =
-      ap (λ (n : ℕ). take n choices) (let e : k + 1 ≡ suc k = omega arith in e)
-      ∙ (take-suc choices k choice low ∙ ap (λ (c : Choice). take k choices ++ c ∷ []) (sym read)) in
-      subst E (sym further) (edge_added (take k choices) choice edges more edge by is same there)
+      let next : k + 1 ≡ suc k = omega arith in
+      let further : take (k + 1) choices ≡ take k choices ++ get_or choices k d ∷ [] =
+      ap (λ (n : ℕ). take n choices) next ∙ take-suc choices k d low in
+      subst E (sym further) (edge_added (take k choices) (get_or choices k d) edges more edge by is same there)
 
 -- an edge that was found at the end of an order
 pub edge_of : {Key : Type 0} (IsKey : Point → Key → Type 0) (asked : Asked) (start : Point) (order : List Move) (p here next : Point)

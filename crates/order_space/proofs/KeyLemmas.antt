@@ -27,10 +27,8 @@ next_byte came k byte b bytes more is so_far added further =
     ∙ ((λ i. so_far i ++ (is ∙ same_byte b) i ∷ [])
     ∙ (sym (map-append came_byte (take k came) (b ∷ [])) ∙ ap (map came_byte) (sym further)))
 
-pub one_more : (came : List Bool) (k : ℕ) (b : Bool) → k < length came → b ≡ get_or came k b → take (k + 1) came ≡ take k came ++ b ∷ []
-one_more came k b low read =
-    let next : k + 1 ≡ suc k = omega arith in
-    ap (λ (n : ℕ). take n came) next ∙ (take-suc came k b low ∙ ap (λ (c : Bool). take k came ++ c ∷ []) (sym read))
+pub one_more : (came : List Bool) (k : ℕ) (d : Bool) → k < length came → take (k + 1) came ≡ take k came ++ get_or came k d ∷ []
+one_more came k d low = let next : k + 1 ≡ suc k = omega arith in ap (λ (n : ℕ). take n came) next ∙ take-suc came k d low
 
 -- a list of all events is told by what it tells of each
 listed_came : (came : List Bool) → came_list (length came) (came_of came) ≡ came

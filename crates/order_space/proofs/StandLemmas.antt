@@ -26,10 +26,6 @@ rows_are file m state spelled same matched saveable =
     let rows : state ≡ one.state = spelled_once (saved_bytes m) state one.state there one.spelled in
     (λ i. machine_in (same i) (rows i)) ∙ one.machine
 
--- there are few processes in rows that say a matched state
-pub few_processes : (file : List ℕ) (state : State) → Matched (machine_in file state) → state.n ≤ 64
-few_processes file state matched = matched.body.processes.few
-
 -- an order arrives at one point
 pub one_point : (asked : Asked) (start : Point) (order : List Move) (p q : Point) → leads_by asked start order ≡ Some p
     → leads_by asked start order ≡ Some q → p ≡ q

@@ -17,21 +17,23 @@ impl Space for Quest {
 
     ghost use Rattle.node_laws.specs.Moves.{Point};
     ghost use Rattle.node_laws.specs.Searches.{IsNoteOf};
-    ghost use Rattle.order_space.specs.Quests.{IsKeyOf, Searching, first_node, next_node, searching_of};
+    ghost use Rattle.order_choices.specs.Asking.{asked_of};
+    ghost use Rattle.order_space.specs.Quests.{IsKeyOf, first_node, next_node, searching_of};
+    ghost use Rattle.order_space.specs.declared.subject.Subject.{Subject};
 
-    ghost Setting = { Searching };
+    ghost Setting = { Subject };
 
-    ghost setting = { λ quest. searching_of quest.subject };
+    ghost setting = { λ quest. quest.subject };
 
     ghost Node = { Point };
 
-    ghost start = { first_node };
+    ghost start = { λ subject. first_node (searching_of subject) };
 
-    ghost after = { next_node };
+    ghost after = { λ subject. next_node (searching_of subject) };
 
-    ghost IsKey = { IsKeyOf };
+    ghost IsKey = { λ subject. IsKeyOf (searching_of subject) };
 
-    ghost IsNote = { λ q. IsNoteOf q.asked };
+    ghost IsNote = { λ subject. IsNoteOf (asked_of subject.orders) };
 
     fn first(&mut self) -> Result<[u8; 32], Unanswered<OrderFault>> {
         let mut run = self.arrive(&[])?;

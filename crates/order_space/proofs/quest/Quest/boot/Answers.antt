@@ -1,6 +1,6 @@
 use Rattle.std.proofs.Common.{refl}
 use Rattle.order_space.proofs.RunLemmas.{booted, room_here, room_is}
-use Rattle.order_space.proofs.runs.Quest.boot.Goals as goal
+use Rattle.order_space.proofs.quest.Quest.boot.Goals as goal
 
 pub returns-in-Ok-boot-clause-booted : goal.returns-in-Ok-boot-clause-booted
 returns-in-Ok-boot-clause-booted c =

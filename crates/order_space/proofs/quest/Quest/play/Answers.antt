@@ -3,7 +3,7 @@ use Rattle.event_player.proofs.Playing.KeptLemmas.{kept_after}
 use Rattle.node_laws.specs.Moves.{Point, leads_by}
 use Rattle.order_choices.specs.Asking.{asked_of}
 use Rattle.order_space.proofs.QuestLemmas.{path_arrives}
-use Rattle.order_space.proofs.runs.Quest.play.Goals as goal
+use Rattle.order_space.proofs.quest.Quest.play.Goals as goal
 
 pub play_order-requires-clause-leads : goal.play_order-requires-clause-leads
 play_order-requires-clause-leads c =

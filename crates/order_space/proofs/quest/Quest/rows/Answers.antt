@@ -1,7 +1,7 @@
 use Rattle.std.proofs.Common.{◌∙◌, ap, refl}
 use Rattle.suspend_image.specs.Sheets.{SheetBytes}
-use Rattle.order_space.proofs.StandLemmas.{few_processes, rows_of}
-use Rattle.order_space.proofs.standing.Quest.rows.Goals as goal
+use Rattle.order_space.proofs.StandLemmas.{rows_of}
+use Rattle.order_space.proofs.quest.Quest.rows.Goals as goal
 
 pub returns-in-Ok-read_state-clause-rows : goal.returns-in-Ok-read_state-clause-rows
 returns-in-Ok-read_state-clause-rows c = (
@@ -10,6 +10,3 @@ returns-in-Ok-read_state-clause-rows c = (
       c.requires.within c.requires.reserved c.in-Ok.ensures.saveable
       (c.as_slice.ensures ∙ ap (λ (sheet : SheetBytes). sheet.bytes) (c.in-Ok.ensures.saved refl)) c.in-Ok-read_state.ensures.spelled,
 )
-
-pub returns-in-Ok-read_state-clause-few : goal.returns-in-Ok-read_state-clause-few
-returns-in-Ok-read_state-clause-few c = few_processes c.as_slice.result.now c.in-Ok-read_state.state c.in-Ok-read_state.ensures.matched

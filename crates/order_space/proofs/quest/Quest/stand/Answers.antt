@@ -3,10 +3,10 @@ use Rattle.order_choices.specs.Asking.{asked_of}
 use Rattle.order_space.specs.Quests.{start_of}
 use Rattle.order_space.proofs.QuestLemmas.{arrived_reserved}
 use Rattle.order_space.proofs.StandLemmas.{stands}
-use Rattle.order_space.proofs.standing.Quest.stand.Goals as goal
+use Rattle.order_space.proofs.quest.Quest.stand.Goals as goal
 
-pub rows-requires-clause-reserved : goal.rows-requires-clause-reserved
-rows-requires-clause-reserved c =
+pub rows-rows-requires-clause-reserved : goal.rows-rows-requires-clause-reserved
+rows-rows-requires-clause-reserved c =
     arrived_reserved c.args.self.now.subject c.args.self.now.lawful c.args.self.now.can_start c.args.order.now _ c.in_ok-run.ensures.arrives
 
 pub returns-in-Ok-clause-stands : goal.returns-in-Ok-clause-stands

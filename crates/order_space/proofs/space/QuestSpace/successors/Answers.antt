@@ -7,7 +7,7 @@ use Rattle.order_choices.specs.Edges.{AreEdgesBy}
 use Rattle.order_space.specs.declared.subject.Subject.{Subject}
 use Rattle.order_space.specs.Quests.{Arrives, IsKeyOf, IsPath, searching_of}
 use Rattle.order_space.proofs.SpaceLemmas.{node_edges, node_note}
-use Rattle.order_space.proofs.space.Quest.successors.Goals as goal
+use Rattle.order_space.proofs.space.QuestSpace.successors.Goals as goal
 
 pub edges-requires-clause-path : goal.edges-requires-clause-path
 edges-requires-clause-path c = subst (λ (s : Subject). IsPath (searching_of s) c.args.path.now) (sym c.look.ensures.subject) c.requires

@@ -5,13 +5,14 @@ use Rattle.order_choices.specs.Asking.{asked_of}
 use Rattle.suspend_image.specs.Sheets.{SheetBytes}
 use Rattle.suspend_image.specs.StateBytes.{saved_bytes}
 use Rattle.order_space.proofs.KeyLemmas.{bounded, long_enough, told_of}
-use Rattle.order_space.proofs.edges.Quest.key.Goals as goal
+use Rattle.order_space.proofs.quest.Quest.key.Goals as goal
 
 pub node_key-requires : goal.node_key-requires
-node_key-requires c =
-    long_enough c.as_slice.result.now _
-    (c.as_slice.ensures
-    ∙ (ap (λ (sheet : SheetBytes). sheet.bytes) (c.in-Ok.ensures.saved refl) ∙ ap saved_bytes (c.save.ensures.machine.whole refl)))
+node_key-requires c = record {
+  long = long_enough c.as_slice.result.now _
+      (c.as_slice.ensures
+      ∙ (ap (λ (sheet : SheetBytes). sheet.bytes) (c.in-Ok.ensures.saved refl) ∙ ap saved_bytes (c.save.ensures.machine.whole refl)));
+}
 
 pub returns-clause-key : goal.returns-clause-key
 returns-clause-key c =

@@ -2,7 +2,7 @@ use Rattle.std.proofs.Common.{◌≡◌, take}
 use Rattle.node_laws.specs.Moves.{Point}
 use Rattle.order_choices.specs.Edges.{AreEdgesBy}
 use Rattle.order_space.specs.Quests.{Arrives, IsKeyOf, searching_of}
-use Rattle.order_space.proofs.edges.Quest.edges.Given as goal
+use Rattle.order_space.proofs.quest.Quest.edges.Given as goal
 
 -- the edges by the choices before
 abbrev pub invariant-loop-choice : goal.invariant-loop-choice

@@ -2,13 +2,13 @@ use Rattle.order_choices.specs.Asking.{asked_of}
 use Rattle.order_space.specs.Quests.{IsKeyOf, searching_of, start_of}
 use Rattle.order_space.proofs.EdgeLemmas.{edge_of}
 use Rattle.order_space.proofs.RunLemmas.{room_kept}
-use Rattle.order_space.proofs.edges.Quest.edge.Goals as goal
+use Rattle.order_space.proofs.quest.Quest.edge.Goals as goal
 
 pub choose-requires-clause-may : goal.choose-requires-clause-may
 choose-requires-clause-may c = c.requires.may _ c.in_ok-run.ensures.arrives
 
-pub key-requires-clause-room : goal.key-requires-clause-room
-key-requires-clause-room c = room_kept c.args.self.now.sheet.room c.choose.ensures.keeps c.in_ok-run.ensures.room
+pub key-key-requires-clause-room : goal.key-key-requires-clause-room
+key-key-requires-clause-room c = room_kept c.args.self.now.sheet.room c.choose.ensures.keeps c.in_ok-run.ensures.room
 
 pub returns-in-Ok-key-clause-edge : goal.returns-in-Ok-key-clause-edge
 returns-in-Ok-key-clause-edge c p arrives =

@@ -2,7 +2,7 @@ use Rattle.std.proofs.Common.{ap, length, subst, sym, ◌∙◌}
 use Rattle.order_choices.specs.Asking.{asked_of}
 use Rattle.order_choices.specs.Choosing.{IsSeen}
 use Rattle.order_space.specs.declared.subject.Subject.{Subject}
-use Rattle.order_space.proofs.standing.Quest.look.Goals as goal
+use Rattle.order_space.proofs.quest.Quest.look.Goals as goal
 
 pub see-requires-clause-few : goal.see-requires-clause-few
 see-requires-clause-few c = c.stand.new.self.few
