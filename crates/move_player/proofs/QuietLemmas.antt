@@ -1,5 +1,5 @@
 -- Quiet steps of a slice: what is played of the rest is played of all.
-use Rattle.std.proofs.Common.{◌≡◌, ◌<◌, ◌≤◌, ◌+◌, ◌-◌, ℕ, zero, suc, Bool, true, false, List, [], Option, Some, None, is_some, refl, sym, ap, ◌∙◌, arith, subst}
+use Rattle.std.proofs.Common.{◌≡◌, ◌≤◌, ◌-◌, ℕ, zero, suc, Bool, true, false, [], Option, Some, None, is_some, refl, sym, ap, ◌∙◌, arith, subst}
 use Rattle.std.specs.Prelude.{◌&&◌, if◌then◌else◌}
 use Rattle.std.specs.Option.{option_map_or}
 use Rattle.std.proofs.lemmas.Bool.{and_parts, false≢true}
@@ -12,7 +12,7 @@ use Rattle.move_player.specs.declared.slices.Part.{Part}
 use Rattle.move_player.specs.declared.slices.Part.TheVariants.{On, Over}
 use Rattle.move_player.specs.Played.{IsFewer, PlaysSome}
 use Rattle.move_player.specs.Steps.{AreSteps, Shown}
-use Rattle.move_player.proofs.StepLemmas.{idle_plays, loud_plays, none_left, silent_plays}
+use Rattle.move_player.proofs.StepLemmas.{none_left, silent_plays}
 
 -- a quiet step is a step, and leaves no record
 record IsSilent (m : Machine) : Type 0 where

@@ -7,6 +7,7 @@ use Rattle.move_player.specs.declared.slices.Part.{Part}
 use Rattle.move_player.specs.declared.slices.Part.TheVariants.{On, Over}
 use Rattle.move_player.specs.Steps.{AreSteps, Shown}
 
+-- what a kernel shows, with the bytes that went to the console
 abbrev pub shown : {W : Type 0} → SwapStore W → Kernel W → List ℕ → Shown
 shown S kernel console = record { machine = machine_of S.held kernel; console = console }
 

@@ -1,6 +1,5 @@
 use Rattle.std.proofs.Common.{IsSome, ap, subst, ◌∙◌}
 use Rattle.node_laws.specs.declared.moves.Move.{Move}
-use Rattle.node_laws.specs.declared.moves.Move.TheVariants.{Slice}
 use Rattle.node_laws.specs.Moves.{Asked, Point, leads}
 use Rattle.order_choices.specs.Asking.{asked_of}
 use Rattle.order_choices.proofs.MoveLemmas.{may_go, same_slice}

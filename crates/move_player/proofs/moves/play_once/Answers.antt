@@ -1,5 +1,5 @@
-use Rattle.std.proofs.Common.{◌≡◌, ◌<◌, ◌++◌, ℕ, Bool, List, Some, true, refl, sym, ap, ◌∙◌, arith, length}
-use Rattle.std.specs.Prelude.{nat_eq, set}
+use Rattle.std.proofs.Common.{◌≡◌, ◌<◌, ◌++◌, List, Some, true, refl, sym, ap, ◌∙◌, arith, length}
+use Rattle.std.specs.Prelude.{nat_eq}
 use Rattle.std.proofs.lemmas.Option.{slice_get_within}
 use Rattle.xk_base.specs.declared.records.Rec.{Rec}
 use Rattle.xk_base.specs.Tables.Counting.{put_at}

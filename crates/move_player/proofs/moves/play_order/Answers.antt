@@ -1,6 +1,6 @@
 use Rattle.std.proofs.Common.{◌∙◌}
 use Rattle.xk_kernel.proofs.Memory.KnownLemmas.{stays_trusted}
-use Rattle.node_laws.specs.Moves.{Asked, Point}
+use Rattle.node_laws.specs.Moves.{Point}
 use Rattle.order_choices.specs.Asking.{asked_of}
 use Rattle.move_player.specs.Runs.{point_of}
 use Rattle.move_player.proofs.KeptLemmas.{kept_after}
@@ -28,7 +28,7 @@ loop-next-preserved g c =
       all = c.play_move.ensures.all ∙ c.loop-next.invariant.all;
       sound = c.play_move.ensures.sound;
       usable = c.in_ok-play_move.ensures.usable;
-      keeps = kept_after c.loop-next.invariant.keeps c.play_move.ensures.keeps;
+      keeps = kept_after g.W.SwapStore c.args.kernel.now c.loop-next.kernel c.play_move.new.kernel c.loop-next.invariant.keeps c.play_move.ensures.keeps;
     }
 
 pub returns-clause-leads : goal.returns-clause-leads

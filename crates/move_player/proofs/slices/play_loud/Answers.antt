@@ -1,10 +1,9 @@
-use Rattle.std.proofs.Common.{◌≡◌, List, true, sym, subst, ◌∙◌}
-use Rattle.xk_base.specs.declared.records.Rec.{Rec}
+use Rattle.std.proofs.Common.{sym, subst, ◌∙◌}
 use Rattle.xk_kernel.specs.Knowing.{KnowsBytes}
 use Rattle.xk_kernel.specs.Stepping.{CountsStep, DoesStep}
 use Rattle.xk_kernel.specs.declared.kernel.Kernel.{Kernel}
 use Rattle.xk_kernel.specs.declared.kernel.Stepped.{Stepped}
-use Rattle.xk_kernel.specs.declared.kernel.Stepped.TheVariants.{Did, Idle}
+use Rattle.xk_kernel.specs.declared.kernel.Stepped.TheVariants.{Idle}
 use Rattle.xk_kernel.proofs.Memory.KnownLemmas.{trusted_knows}
 use Rattle.move_player.specs.Played.{shown}
 use Rattle.move_player.specs.Steps.{AreSteps, Shown}

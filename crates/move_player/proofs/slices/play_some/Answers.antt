@@ -1,7 +1,6 @@
-use Rattle.std.proofs.Common.{◌≡◌, ◌≤◌, ℕ, refl, subst, ◌∙◌, arith}
+use Rattle.std.proofs.Common.{◌≡◌, refl, subst, ◌∙◌, arith}
 use Rattle.std.proofs.lemmas.Result.{IfOk-weaker}
 use Rattle.xk_kernel.specs.Quiet.{GoesQuietly}
-use Rattle.xk_kernel.specs.State.{machine_of}
 use Rattle.xk_kernel.proofs.Memory.KnownLemmas.{stays_trusted, trusted_knows}
 use Rattle.move_player.specs.Played.{IsFewer, PlaysSome, shown}
 use Rattle.move_player.specs.Steps.{Shown}

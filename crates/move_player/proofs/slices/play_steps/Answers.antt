@@ -1,4 +1,4 @@
-use Rattle.std.proofs.Common.{◌≡◌, ◌≤◌, ◌+◌, ℕ, subst, ◌∙◌, arith}
+use Rattle.std.proofs.Common.{◌≡◌, ◌≤◌, ◌+◌, subst, ◌∙◌, arith}
 use Rattle.xk_kernel.proofs.Memory.KnownLemmas.{stays_trusted}
 use Rattle.move_player.specs.declared.slices.Part.{Part}
 use Rattle.move_player.specs.declared.slices.Part.TheVariants.{On, Over}
@@ -32,7 +32,7 @@ steps-preserved g c =
       few = omega (arith, counts, c.steps.invariant.few);
       sound = c.play_some.ensures.sound;
       usable = c.in_ok-rest.ensures.usable;
-      keeps = kept_after c.steps.invariant.keeps c.play_some.ensures.keeps;
+      keeps = kept_after g.W.SwapStore c.args.kernel.now c.steps.kernel c.play_some.new.kernel c.steps.invariant.keeps c.play_some.ensures.keeps;
     }
 
 pub returns-in-Over-clause-plays : goal.returns-in-Over-clause-plays
