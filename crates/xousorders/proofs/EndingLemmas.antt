@@ -9,10 +9,14 @@ use Rattle.node_laws.specs.declared.moves.Note.{Note}
 use Rattle.node_laws.specs.declared.moves.Note.TheVariants.{Ending as IsEnd, Inner}
 use Rattle.node_laws.specs.Moves.{Point, leads_by}
 use Rattle.node_laws.specs.Searches.{IsSound, Telling, note_of}
-use Rattle.order_space.specs.Found.{TellsAllOrders, TellsOrders}
+use Rattle.order_space.specs.declared.subject.Subject.{Subject}
+use Rattle.order_space.specs.Found.{DigestsTell, TellsAllOrders, TellsOrders, telling_of}
+use Rattle.order_space.specs.Quests.{searching_of}
+use Rattle.state_search.specs.declared.found.Edge.{Edge}
+use Rattle.std.specs.declared.cmp.Ordering.{Ordering}
 use Rattle.state_search.proofs.ListLemmas.{slice_get-behind, slice_get-front}
 use Rattle.state_search.specs.Paths.{labels_to}
-use Rattle.xousorders.specs.Endings.{Adds, AreEndings, IsEndingOf, IsLook, TellsAllEndings, TellsEndings}
+use Rattle.xousorders.specs.Endings.{Adds, AreEndings, IsEndingOf, IsLook, Lists, TellsAllEndings, TellsEndings}
 use Rattle.xousorders.specs.declared.endings.Ending.{Ending}
 use Rattle.xousorders.specs.declared.endings.Endings.{Endings}
 use Rattle.xousorders.specs.declared.endings.Look.{Look}
@@ -57,8 +61,7 @@ module _ (t : Telling) where
   grown : (node : ℕ) (order : List Move) (old new : Endings) → Adds node order old new → length old.list.items ≤ length new.list.items
   grown node order old new adds = go adds.list
     where
-      go : (new.list.items ≡ old.list.items)
-          ⊎ ((ending : Ending) × (ending.first ≡ node) × (ending.order.items ≡ order) × (new.list.items ≡ old.list.items ++ ending ∷ []))
+      go : Lists node order old.list.items new.list.items
           → length old.list.items ≤ length new.list.items
       go (inl same) = let e : length new.list.items ≡ length old.list.items = ap length same in omega (arith, e)
       go (inr more) =
@@ -73,8 +76,7 @@ module _ (t : Telling) where
     all = λ other low at. by_place other at (split other low);
   }
     where
-      go : (new.list.items ≡ old.list.items)
-          ⊎ ((ending : Ending) × (ending.first ≡ node) × (ending.order.items ≡ order) × (new.list.items ≡ old.list.items ++ ending ∷ []))
+      go : Lists node order old.list.items new.list.items
           → All (IsEndingOf t) new.list.items
       go (inl same) = subst (All (IsEndingOf t)) (sym same) are.each
       go (inr more) =
@@ -136,3 +138,20 @@ module _ (t : Telling) where
         found = told.found;
         look = are.all told.number (slice_get_within t.notes told.number IsEnd here) here;
       }
+
+-- .. also where the search has the same subject then
+pub all_moved : {cmp : List ℕ → List ℕ → Ordering} (s then : Subject) (same : then ≡ s) (edges : List (Edge Move)) (notes : List Note) (endings : Endings)
+    (P : Type 0) → (P → DigestsTell (searching_of s) cmp → TellsAllOrders (telling_of (searching_of s) edges notes))
+    → AreEndings (telling_of (searching_of s) edges notes) (length notes) endings → P → DigestsTell (searching_of then) cmp
+    → TellsAllEndings (telling_of (searching_of then) edges notes) endings
+all_moved {cmp = cmp} s then same edges notes endings P whole are p =
+    let F : Subject → Type 0 = λ x. DigestsTell (searching_of x) cmp → TellsAllEndings (telling_of (searching_of x) edges notes) endings in
+    let here : F s = λ tell. all_told (telling_of (searching_of s) edges notes) endings are (whole p tell) in
+    subst F (sym same) here
+
+pub each_moved : (s then : Subject) (same : then ≡ s) (edges : List (Edge Move)) (notes : List Note) (endings : Endings)
+    → AreEndings (telling_of (searching_of s) edges notes) (length notes) endings → IsSound (telling_of (searching_of s) edges notes)
+    → TellsOrders (telling_of (searching_of s) edges notes) → TellsEndings (telling_of (searching_of then) edges notes) endings
+each_moved s then same edges notes endings are sound tells =
+    subst (λ (x : Subject). TellsEndings (telling_of (searching_of x) edges notes) endings) (sym same)
+    (each_told (telling_of (searching_of s) edges notes) endings are sound tells)

@@ -32,13 +32,17 @@ pub record AreEndings (t : Telling) (n : ℕ) (endings : Endings) : Type 0 where
   pub each : All (IsEndingOf t) endings.list.items
   pub all : (node : ℕ) → node < n → slice_get t.notes node ≡ Some IsEnd → IsLook endings node
 
+-- no ending was added, or that of this node, with its order
+abbrev pub Lists : ℕ → List Move → List Ending → List Ending → Type 0
+Lists node order old new =
+    (new ≡ old) ⊎ ((ending : Ending) × (ending.first ≡ node) × (ending.order.items ≡ order) × (new ≡ old ++ ending ∷ []))
+
 -- a node was told: it looks like an ending of before, or like a new one, which has its order
 pub record Adds (node : ℕ) (order : List Move) (old new : Endings) : Type 0 where
   pub place : ℕ
   pub among : place < length new.list.items
   pub looks : new.looks.items ≡ old.looks.items ++ (record { node = node; ending = place }) ∷ []
-  pub list : (new.list.items ≡ old.list.items)
-      ⊎ ((ending : Ending) × (ending.first ≡ node) × (ending.order.items ≡ order) × (new.list.items ≡ old.list.items ++ ending ∷ []))
+  pub list : Lists node order old.list.items new.list.items
 
 -- ---- of orders
 

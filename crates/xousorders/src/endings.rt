@@ -5,7 +5,7 @@ ghost use Rattle.node_laws.specs.Searches.{IsSound};
 ghost use Rattle.node_laws.specs.declared.moves.Note.TheVariants.{Ending as IsEnd};
 ghost use Rattle.order_space.specs.Found.{telling_of};
 ghost use Rattle.order_space.specs.Quests.{searching_of};
-ghost use Rattle.xousorders.specs.Endings.{Adds, AreEndings};
+ghost use Rattle.xousorders.specs.Endings.{Adds, AreEndings, Lists};
 
 use crate::seen::put_seen;
 use crate::status::{Status, stopped};
@@ -54,7 +54,10 @@ fn place_for(
     first: usize,
     seen: Vec<u8>,
     order: Vec<Move>,
-) -> Result<usize, AllocError> {
+) -> Result<usize, AllocError>
+    ensures among { IfOk result (λ place. place < length list.new.items) }
+    ensures lists { OnOk result (Lists first order.items list.old.items list.new.items) }
+{
     match place_of(list, &seen) {
         Some(place) => Ok(place),
         None => {
@@ -107,6 +110,27 @@ fn see(
     Ok(())
 }
 
+/// So it is where the node is one where orders end.
+fn pass(
+    alloc: Global,
+    quest: &mut Quest,
+    found: &Found<Move, Note>,
+    node: usize,
+    endings: &mut Endings,
+) -> Result<(), Status>
+    requires sound { let q = searching_of quest.old.subject in IsSound (telling_of q found.now.edges.items found.now.notes.items) }
+    requires node { node < length found.now.notes.items }
+    ensures adds { let q = searching_of quest.old.subject in
+        let t = telling_of q found.now.edges.items found.now.notes.items in
+        OnOk result (AreEndings t node endings.old → AreEndings t (node + 1) endings.new) }
+    ensures subject { quest.new.subject ≡ quest.old.subject }
+{
+    match found.notes[node] {
+        Note::Inner => Ok(()),
+        Note::Ending => see(alloc, quest, found, node, endings),
+    }
+}
+
 /// All nodes where orders end are told, each with those that it looks like.
 pub fn endings_of(
     alloc: Global,
@@ -124,10 +148,7 @@ pub fn endings_of(
         looks: Vec::new(alloc),
     };
     for node in 0..found.notes.len() {
-        match found.notes[node] {
-            Note::Inner => {}
-            Note::Ending => see(alloc, quest, found, node, &mut endings)?,
-        }
+        pass(alloc, quest, found, node, &mut endings)?;
     }
     Ok(endings)
 }

@@ -1,6 +1,8 @@
-use Rattle.std.proofs.Common.{◌∙◌, subst, sym}
+use Rattle.std.proofs.Common.{◌∙◌, get_or, subst, sym}
 use Rattle.node_laws.specs.Moves.{Point}
 use Rattle.order_choices.specs.Asking.{asked_of}
+use Rattle.order_choices.specs.declared.choices.Choice.{Choice}
+use Rattle.order_choices.specs.declared.choices.Choice.TheVariants.{Goes}
 use Rattle.order_choices.specs.Edges.{IsEdge}
 use Rattle.order_space.specs.declared.subject.Subject.{Subject}
 use Rattle.order_space.specs.Quests.{Arrives, IsChoice, IsKeyOf, IsPath, searching_of}
@@ -14,9 +16,14 @@ edge-requires-clause-path c =
 
 pub edge-requires-clause-may : goal.edge-requires-clause-may
 edge-requires-clause-may c =
-    subst (λ (s : Subject). (p : Point) → Arrives (searching_of s) c.args.path.now p → IsChoice (asked_of s.orders) p _)
-    (sym c.loop-choice.invariant.subject)
-    (λ p arrives. chosen (asked_of c.args.self.now.subject.orders) p c.args.choices.now c.loop-choice.choice-index _ c.loop-choice-test.true (c.requires.may p arrives))
+    let d : Choice = Goes (record { pid = record { 0 = 0 }; tid = record { 0 = 0 } }) in
+    let M : Subject → Type 0 =
+    λ s. (p : Point) → Arrives (searching_of s) c.args.path.now p
+    → IsChoice (asked_of s.orders) p (get_or c.args.choices.now c.loop-choice.choice-index d) in
+    let may : M c.args.self.now.subject = λ p arrives.
+    chosen (asked_of c.args.self.now.subject.orders) p c.args.choices.now c.loop-choice.choice-index d c.loop-choice-test.true
+    (c.requires.may p arrives) in
+    subst M (sym c.loop-choice.invariant.subject) may
 
 pub loop-choice-preserved : goal.loop-choice-preserved
 loop-choice-preserved c =
