@@ -25,8 +25,12 @@ is_slice (Once k) = false
 abbrev pub slices_in : List Move → ℕ
 slices_in order = length (filter is_slice order)
 
+abbrev pub ending_head : ℕ → List ℕ → List ℕ
+ending_head number seen = codes "ending " ++ (decimal number ++ (codes ": " ++ seen))
+
+abbrev pub ending_counts : ℕ → List Move → List ℕ
+ending_counts nodes order = codes "; " ++ (counted nodes (codes "node") ++ (codes "; " ++ (counted (slices_in order) (codes "slice") ++ codes "\n")))
+
 -- an ending that looks so, of so many nodes, with the order to the first of them
 abbrev pub ending_line : ℕ → List ℕ → ℕ → List Move → List ℕ
-ending_line number seen nodes order =
-    codes "ending " ++ (decimal number ++ (codes ": " ++ (seen ++ (codes "; "
-    ++ (counted nodes (codes "node") ++ (codes "; " ++ (counted (slices_in order) (codes "slice") ++ codes "\n")))))))
+ending_line number seen nodes order = ending_head number seen ++ ending_counts nodes order

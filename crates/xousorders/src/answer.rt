@@ -1,7 +1,7 @@
 //! What is told of a search.
 
 ghost use Rattle.std.specs.Prelude.{◌≡◌, ◌++◌, decimal, OnOk};
-ghost use Rattle.xousorders.specs.Lines.{counted, ending_line, extent_line, slices_in};
+ghost use Rattle.xousorders.specs.Lines.{counted, ending_counts, ending_head, ending_line, extent_line, slices_in};
 
 use crate::endings::{Ending, Endings, count_looks};
 use crate::seen::{put, put_number};
@@ -51,6 +51,27 @@ pub fn put_extent(
     }
 }
 
+/// The number of an ending, and what is seen of it.
+fn put_head(text: &mut Vec<u8>, number: u64, seen: &[u8]) -> Result<(), AllocError>
+    ensures { OnOk result (text.new.items ≡ text.old.items ++ ending_head number seen.now) }
+{
+    put(text, b"ending ")?;
+    put_number(text, number)?;
+    put(text, b": ")?;
+    put(text, seen)
+}
+
+/// Of how many nodes it is, and how many slices the order to the first has.
+fn put_counts(text: &mut Vec<u8>, nodes: u64, order: &[Move]) -> Result<(), AllocError>
+    ensures { OnOk result (text.new.items ≡ text.old.items ++ ending_counts nodes order.now) }
+{
+    put(text, b"; ")?;
+    put_counted(text, nodes, b"node")?;
+    put(text, b"; ")?;
+    put_counted(text, slices_of(order), b"slice")?;
+    put(text, b"\n")
+}
+
 /// The line of an ending, of which so many nodes look alike.
 fn put_ending(
     text: &mut Vec<u8>,
@@ -61,16 +82,8 @@ fn put_ending(
     ensures { OnOk result (text.new.items
         ≡ text.old.items ++ ending_line number ending.now.seen.items nodes ending.now.order.items) }
 {
-    put(text, b"ending ")?;
-    put_number(text, number)?;
-    put(text, b": ")?;
-    put(text, &ending.seen)?;
-    put(text, b"; ")?;
-    put_counted(text, nodes, b"node")?;
-    put(text, b"; ")?;
-    put_counted(text, slices_of(&ending.order), b"slice")?;
-    text.push(b'\n')?;
-    Ok(())
+    put_head(text, number, &ending.seen)?;
+    put_counts(text, nodes, &ending.order)
 }
 
 /// The lines of the endings, and of how many there are.

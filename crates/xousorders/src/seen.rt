@@ -1,6 +1,6 @@
 //! What is seen of an ending, as text: the console, who lives, and for what each thread waits.
 
-ghost use Rattle.std.specs.Prelude.{◌≡◌, ◌++◌, decimal, OnOk};
+ghost use Rattle.std.specs.Prelude.{◌≡◌, ◌≤◌, ◌++◌, decimal, length, OnOk};
 
 use itoa::Buffer;
 use state_rows::{MessageRow, ServerRow, State, ThreadRow};
@@ -73,6 +73,19 @@ fn is_letter(byte: u8) -> bool {
     32 < byte && byte < 127
 }
 
+/// How many bytes there are without blanks at the end.
+fn length_of(letters: &[u8]) -> usize
+    ensures { result ≤ length letters.now }
+{
+    for k in 0..letters.len() {
+        let last = letters.len() - 1 - k;
+        if letters[last] != 0 && letters[last] != b' ' {
+            return last + 1;
+        }
+    }
+    0
+}
+
 /// The identifier as the text that it spells, a letter or four in each word but for blanks at the end, else as four words.
 fn put_name(text: &mut Vec<u8>, sid: &[u32; 4]) -> Result<(), AllocError> {
     if sid.iter().all(|word| 32 < *word && *word < 127) {
@@ -88,12 +101,7 @@ fn put_name(text: &mut Vec<u8>, sid: &[u32; 4]) -> Result<(), AllocError> {
             letters[4 * k + j] = bytes[j];
         }
     }
-    let mut length = 0;
-    for k in 0..16 {
-        if letters[k] != 0 && letters[k] != b' ' {
-            length = k + 1;
-        }
-    }
+    let length = length_of(&letters);
     if length > 0 && letters[..length].iter().all(|byte| is_letter(*byte)) {
         return put(text, &letters[..length]);
     }

@@ -8,11 +8,11 @@ use Rattle.state_search.specs.Paths.{IsTree, labels_to}
 use Rattle.xousorders.proofs.EndingLemmas.{node_told}
 use Rattle.xousorders.proofs.endings.see.Goals as goal
 
-pub path_to-order-requires-clause-tree : goal.path_to-order-requires-clause-tree
-path_to-order-requires-clause-tree c = subst (λ (es : List (Edge Move)). IsTree es) (sym c.deref.ensures.value) c.requires.sound.tree
+pub path_to-requires-clause-tree : goal.path_to-requires-clause-tree
+path_to-requires-clause-tree c = subst (λ (es : List (Edge Move)). IsTree es) (sym c.deref.ensures.value) c.requires.sound.tree
 
-pub path_to-order-requires-clause-node : goal.path_to-order-requires-clause-node
-path_to-order-requires-clause-node c =
+pub path_to-requires-clause-node : goal.path_to-requires-clause-node
+path_to-requires-clause-node c =
     let few : length c.args.found.now.notes.items ≤ length c.args.found.now.edges.items + 1 = c.requires.sound.few in
     let same : length c.deref.result.now ≡ length c.args.found.now.edges.items = ap length c.deref.ensures.value in
     omega (arith, few, same)
