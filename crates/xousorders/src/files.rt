@@ -1,6 +1,6 @@
 //! Orders are written as event files.
 
-ghost use Rattle.std.specs.Prelude.{◌≡◌, ◌++◌, IfOk, OnOk};
+ghost use Rattle.std.specs.Prelude.{◌≡◌, ◌++◌, IfOk, OnOk, slice_get};
 ghost use Rattle.node_laws.specs.Moves.{Asked, events_of as events_in, events_of_move};
 ghost use Rattle.xousorders.specs.Files.{order_file, with_feed};
 
@@ -13,6 +13,13 @@ use std::fs;
 use std::rt::Files;
 use xk_base::Event;
 
+/// The event of this number.
+fn event_at(once: &[Event], number: u32) -> Option<Event>
+    ensures { result ≡ slice_get once.now number }
+{
+    once.get(number as usize).copied()
+}
+
 /// The events that play a move.
 fn add_move(events: &mut Vec<Event>, next: Move, once: &[Event]) -> Result<(), AllocError>
     ensures { (asked : Asked) → asked.once ≡ once.now → OnOk result (events.new.items ≡ events.old.items ++ events_of_move asked next) }
@@ -23,9 +30,9 @@ fn add_move(events: &mut Vec<Event>, next: Move, once: &[Event]) -> Result<(), A
             events.push(Event::Tick(steps))?;
             Ok(())
         }
-        Move::Once(number) => match once.get(number as usize) {
+        Move::Once(number) => match event_at(once, number) {
             Some(event) => {
-                events.push(*event)?;
+                events.push(event)?;
                 Ok(())
             }
             None => Ok(()),

@@ -1,9 +1,9 @@
 //! Who waits for a search is told how far it has come.
 
-ghost use Rattle.std.specs.Prelude.{◌≡◌, ◌≤◌, [], length};
+ghost use Rattle.std.specs.Prelude.{◌≤◌, ◌+◌, length};
+ghost use Rattle.arrayvec.specs.ArrayVec.{array_vec_len};
 
-use host_io::text::{Line, put};
-use itoa::Buffer;
+use host_io::text::{Line, put, put_number};
 use state_search::{Progress, Watch};
 use std::rt::Clock;
 use std::time::Instant;
@@ -22,11 +22,13 @@ pub struct Teller<'a, C: Clock, N: Sink> {
     last: Option<Instant>,
 }
 
-/// Appends a text and a number, of which the longest has twenty digits.
-fn put_count(line: &mut Line, text: &[u8], count: usize) {
+/// Appends a text and a number; one above those of 32 bits is told as the greatest of them.
+fn put_count(line: &mut Line, text: &[u8], count: usize)
+    requires { array_vec_len line.old + length text.now + 10 ≤ 256 }
+    ensures { array_vec_len line.new ≤ array_vec_len line.old + length text.now + 10 }
+{
     put(line, text);
-    let mut digits = Buffer::new();
-    put(line, digits.format(count).as_bytes());
+    put_number(line, count.min(u32::MAX as usize) as u32);
 }
 
 /// The line of so much progress.
