@@ -1,0 +1,29 @@
+use Rattle.std.proofs.Common.{◌≡◌, ◌+◌, ◌∙◌, arith, length, subst, sym}
+use Rattle.node_laws.specs.Searches.{IsSound}
+use Rattle.order_space.specs.declared.subject.Subject.{Subject}
+use Rattle.order_space.specs.Found.{telling_of}
+use Rattle.order_space.specs.Quests.{searching_of}
+use Rattle.xousorders.specs.Endings.{AreEndings}
+use Rattle.xousorders.proofs.endings.endings_of.Goals as goal
+
+pub pass-requires-clause-sound : goal.pass-requires-clause-sound
+pass-requires-clause-sound c =
+    subst (λ (s : Subject). IsSound (telling_of (searching_of s) c.args.found.now.edges.items c.args.found.now.notes.items))
+    (sym c.loop-node.invariant.subject) c.requires.sound
+
+pub loop-node-preserved : goal.loop-node-preserved
+loop-node-preserved c =
+    let A : Subject → Type 0 =
+    λ s. AreEndings (telling_of (searching_of s) c.args.found.now.edges.items c.args.found.now.notes.items) c.loop-node.node c.loop-node.endings
+    → AreEndings (telling_of (searching_of s) c.args.found.now.edges.items c.args.found.now.notes.items) (c.loop-node.node + 1)
+    c.pass.new.endings in
+    record {
+      subject = c.pass.ensures.subject ∙ c.loop-node.invariant.subject;
+      told = subst A c.loop-node.invariant.subject c.in_ok-pass.ensures.adds c.loop-node.invariant.told;
+    }
+
+pub returns-clause-all : goal.returns-clause-all
+returns-clause-all c =
+    let done : c.loop-node.node ≡ length c.args.found.now.notes.items = omega arith in
+    subst (λ n. AreEndings (telling_of (searching_of c.args.quest.now.subject) c.args.found.now.edges.items c.args.found.now.notes.items) n c.loop-node.endings)
+    done c.loop-node.invariant.told

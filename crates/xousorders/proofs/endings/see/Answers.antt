@@ -1,0 +1,37 @@
+use Rattle.std.proofs.Common.{◌≡◌, ◌≤◌, ◌+◌, ◌∙◌, ap, arith, length, List, subst, sym}
+use Rattle.node_laws.specs.declared.moves.Move.{Move}
+use Rattle.order_space.specs.Found.{telling_of}
+use Rattle.order_space.specs.Quests.{first_node, next_node, searching_of}
+use Rattle.state_search.specs.declared.found.Edge.{Edge}
+use Rattle.state_search.specs.Graph.{node_by}
+use Rattle.state_search.specs.Paths.{IsTree, labels_to}
+use Rattle.xousorders.proofs.EndingLemmas.{node_told}
+use Rattle.xousorders.proofs.endings.see.Goals as goal
+
+pub path_to-requires-clause-tree : goal.path_to-requires-clause-tree
+path_to-requires-clause-tree c = subst (λ (es : List (Edge Move)). IsTree es) (sym c.deref.ensures.value) c.requires.sound.tree
+
+pub path_to-requires-clause-node : goal.path_to-requires-clause-node
+path_to-requires-clause-node c =
+    let few : length c.args.found.now.notes.items ≤ length c.args.found.now.edges.items + 1 = c.requires.sound.few in
+    let same : length c.deref.result.now ≡ length c.args.found.now.edges.items = ap length c.deref.ensures.value in
+    omega (arith, few, same)
+
+pub stand-requires : goal.stand-requires
+stand-requires c =
+    let few : length c.args.found.now.notes.items ≤ length c.args.found.now.edges.items + 1 = c.requires.sound.few in
+    let led = c.requires.sound.led_to c.args.node (omega (arith, few)) in
+    record {
+      path = (
+        led.0,
+        ap (node_by (next_node (searching_of c.args.quest.now.subject)) (first_node (searching_of c.args.quest.now.subject)))
+            (c.deref-2.ensures.value ∙ (c.in_ok-order.ensures ∙ ap (λ (es : List (Edge Move)). labels_to es c.args.node) c.deref.ensures.value))
+            ∙ led.1.by_path,
+      );
+    }
+
+pub returns-clause-adds : goal.returns-clause-adds
+returns-clause-adds c =
+    node_told (telling_of (searching_of c.args.quest.now.subject) c.args.found.now.edges.items c.args.found.now.notes.items) c.args.node _
+    c.args.endings.now _ c.requires.ends
+    (c.in_ok-order.ensures ∙ ap (λ (es : List (Edge Move)). labels_to es c.args.node) c.deref.ensures.value) c.in_ok-add.ensures

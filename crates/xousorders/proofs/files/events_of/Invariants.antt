@@ -1,0 +1,6 @@
+use Rattle.std.proofs.Common.{◌≡◌, take}
+use Rattle.node_laws.specs.Moves.{Asked, events_of}
+use Rattle.xousorders.proofs.files.events_of.Given as goal
+
+abbrev pub invariant-loop-next : goal.invariant-loop-next
+invariant-loop-next l = (asked : Asked) → asked.once ≡ l.once → l.events.items ≡ events_of asked (take l.next-index l.order)

@@ -1,0 +1,36 @@
+-- The lines of what a search found.
+use Rattle.std.specs.Prelude.{ℕ, ◌==◌, Bool, true, false, List, [], ◌++◌, codes, decimal, filter, if◌then◌else◌, length}
+use Rattle.node_laws.specs.declared.moves.Move.{Move}
+use Rattle.node_laws.specs.declared.moves.Move.TheVariants.{Once, Slice}
+use Rattle.state_search.specs.declared.found.Extent.{Extent}
+use Rattle.state_search.specs.declared.found.Extent.TheVariants.{Cut, Whole}
+
+-- a number with its noun
+abbrev pub counted : ℕ → List ℕ → List ℕ
+counted n noun = decimal n ++ (codes " " ++ (noun ++ (if n == 1 then [] else codes "s")))
+
+abbrev pub extent_text : Extent → List ℕ
+extent_text Whole = codes " whole\n"
+extent_text (Cut why) = codes " cut\n"
+
+-- how much was searched
+abbrev pub extent_line : ℕ → ℕ → Extent → List ℕ
+extent_line states slices extent = codes "states " ++ (decimal states ++ (codes " slices " ++ (decimal slices ++ extent_text extent)))
+
+abbrev pub is_slice : Move → Bool
+is_slice (Slice who steps) = true
+is_slice (Once k) = false
+
+-- how many slices an order has
+abbrev pub slices_in : List Move → ℕ
+slices_in order = length (filter is_slice order)
+
+abbrev pub ending_head : ℕ → List ℕ → List ℕ
+ending_head number seen = codes "ending " ++ (decimal number ++ (codes ": " ++ seen))
+
+abbrev pub ending_counts : ℕ → List Move → List ℕ
+ending_counts nodes order = codes "; " ++ (counted nodes (codes "node") ++ (codes "; " ++ (counted (slices_in order) (codes "slice") ++ codes "\n")))
+
+-- an ending that looks so, of so many nodes, with the order to the first of them
+abbrev pub ending_line : ℕ → List ℕ → ℕ → List Move → List ℕ
+ending_line number seen nodes order = ending_head number seen ++ ending_counts nodes order

@@ -1,0 +1,99 @@
+//! What is told of a search.
+
+ghost use Rattle.std.specs.Prelude.{◌≡◌, ◌++◌, decimal, OnOk};
+ghost use Rattle.xousorders.specs.Lines.{counted, ending_counts, ending_head, ending_line, extent_line, slices_in};
+
+use crate::endings::{Ending, Endings, count_looks};
+use crate::seen::{put, put_number};
+use node_laws::Move;
+use state_search::{Cut, Extent};
+use std::alloc::AllocError;
+
+/// A number with its noun.
+fn put_counted(text: &mut Vec<u8>, count: u64, noun: &[u8]) -> Result<(), AllocError>
+    ensures { OnOk result (text.new.items ≡ text.old.items ++ counted count noun.now) }
+{
+    put_number(text, count)?;
+    text.push(b' ')?;
+    put(text, noun)?;
+    if count != 1 {
+        text.push(b's')?;
+    }
+    Ok(())
+}
+
+/// How many slices an order has.
+fn slices_of(order: &[Move]) -> u64
+    ensures { result ≡ slices_in order.now }
+{
+    order
+        .iter()
+        .filter(|next| matches!(next, Move::Slice(_, _)))
+        .count() as u64
+}
+
+/// The line of how much was searched.
+pub fn put_extent(
+    text: &mut Vec<u8>,
+    states: u64,
+    slices: u64,
+    extent: Extent,
+) -> Result<(), AllocError>
+    ensures { OnOk result (text.new.items ≡ text.old.items ++ extent_line states slices extent) }
+{
+    put(text, b"states ")?;
+    put_number(text, states)?;
+    put(text, b" slices ")?;
+    put_number(text, slices)?;
+    match extent {
+        Extent::Whole => put(text, b" whole\n"),
+        Extent::Cut(Cut::Nodes) | Extent::Cut(Cut::Memory) => put(text, b" cut\n"),
+    }
+}
+
+/// The number of an ending, and what is seen of it.
+fn put_head(text: &mut Vec<u8>, number: u64, seen: &[u8]) -> Result<(), AllocError>
+    ensures { OnOk result (text.new.items ≡ text.old.items ++ ending_head number seen.now) }
+{
+    put(text, b"ending ")?;
+    put_number(text, number)?;
+    put(text, b": ")?;
+    put(text, seen)
+}
+
+/// Of how many nodes it is, and how many slices the order to the first has.
+fn put_counts(text: &mut Vec<u8>, nodes: u64, order: &[Move]) -> Result<(), AllocError>
+    ensures { OnOk result (text.new.items ≡ text.old.items ++ ending_counts nodes order.now) }
+{
+    put(text, b"; ")?;
+    put_counted(text, nodes, b"node")?;
+    put(text, b"; ")?;
+    put_counted(text, slices_of(order), b"slice")?;
+    put(text, b"\n")
+}
+
+/// The line of an ending, of which so many nodes look alike.
+fn put_ending(
+    text: &mut Vec<u8>,
+    number: u64,
+    ending: &Ending,
+    nodes: u64,
+) -> Result<(), AllocError>
+    ensures { OnOk result (text.new.items
+        ≡ text.old.items ++ ending_line number ending.now.seen.items nodes ending.now.order.items) }
+{
+    put_head(text, number, &ending.seen)?;
+    put_counts(text, nodes, &ending.order)
+}
+
+/// The lines of the endings, and of how many there are.
+pub fn put_endings(text: &mut Vec<u8>, endings: &Endings) -> Result<(), AllocError> {
+    for place in 0..endings.list.len() {
+        let nodes = count_looks(&endings.looks, place);
+        let number = (place as u64).saturating_add(1);
+        put_ending(text, number, &endings.list[place], nodes)?;
+    }
+    put_counted(text, endings.list.len() as u64, b"ending")?;
+    text.push(b'\n')?;
+    Ok(())
+}

@@ -1,0 +1,101 @@
+//! Orders are written as event files.
+
+ghost use Rattle.std.specs.Prelude.{◌≡◌, ◌++◌, IfOk, OnOk, slice_get};
+ghost use Rattle.node_laws.specs.Moves.{Asked, events_of as events_in, events_of_move};
+ghost use Rattle.xousorders.specs.Files.{order_file, with_feed};
+
+use crate::endings::Ending;
+use crate::status::Status;
+use event_lines::event_file;
+use node_laws::Move;
+use std::alloc::{AllocError, Global};
+use std::fs;
+use std::rt::Files;
+use xk_base::Event;
+
+/// The event of this number.
+fn event_at(once: &[Event], number: u32) -> Option<Event>
+    ensures { result ≡ slice_get once.now number }
+{
+    once.get(number as usize).copied()
+}
+
+/// The events that play a move.
+fn add_move(events: &mut Vec<Event>, next: Move, once: &[Event]) -> Result<(), AllocError>
+    ensures { (asked : Asked) → asked.once ≡ once.now → OnOk result (events.new.items ≡ events.old.items ++ events_of_move asked next) }
+{
+    match next {
+        Move::Slice(who, steps) => {
+            events.push(Event::Pick(who.pid, who.tid))?;
+            events.push(Event::Tick(steps))?;
+            Ok(())
+        }
+        Move::Once(number) => match event_at(once, number) {
+            Some(event) => {
+                events.push(event)?;
+                Ok(())
+            }
+            None => Ok(()),
+        },
+    }
+}
+
+/// The events of an order.
+fn events_of(alloc: Global, order: &[Move], once: &[Event]) -> Result<Vec<Event>, AllocError>
+    ensures { (asked : Asked) → asked.once ≡ once.now → IfOk result (λ events. events.items ≡ events_in asked order.now) }
+{
+    let mut events = Vec::new(alloc);
+    for next in order {
+        add_move(&mut events, *next, once)?;
+    }
+    Ok(events)
+}
+
+/// These bytes, with a line feed behind the last line.
+fn end_lines(alloc: Global, bytes: &[u8]) -> Result<Vec<u8>, AllocError>
+    ensures { IfOk result (λ file. file.items ≡ with_feed bytes.now) }
+{
+    let mut file = bytes.to_vec(alloc)?;
+    if bytes.is_empty() || bytes.ends_with(b"\n") {
+        return Ok(file);
+    }
+    file.push(b'\n')?;
+    Ok(file)
+}
+
+/// The bytes of a file that plays the events before and then the order.
+fn file_of(
+    alloc: Global,
+    before: &[u8],
+    order: &[Move],
+    once: &[Event],
+) -> Result<Vec<u8>, AllocError>
+    ensures { (asked : Asked) → asked.once ≡ once.now → IfOk result (λ file. file.items ≡ order_file asked before.now order.now) }
+{
+    let mut file = end_lines(alloc, before)?;
+    let events = events_of(alloc, order, once)?;
+    let lines = event_file(alloc, &events)?;
+    file.extend_from_slice(&lines)?;
+    Ok(file)
+}
+
+/// Writes the event file of each ending.
+pub fn write_files<R: Files>(
+    rt: &R,
+    alloc: Global,
+    folder: &str,
+    before: &[u8],
+    once: &[Event],
+    endings: &[Ending],
+) -> Result<(), Status> {
+    let mut number = 0u64;
+    for ending in endings {
+        number = number.saturating_add(1);
+        let file = file_of(alloc, before, &ending.order, once)?;
+        let name = format!(in alloc; "{folder}/ending-{number}.events")?;
+        if fs::write(rt, name.as_str(), file.as_slice()).is_err() {
+            return Err(Status::WriteFault);
+        }
+    }
+    Ok(())
+}

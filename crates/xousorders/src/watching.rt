@@ -1,0 +1,81 @@
+//! Who waits for a search is told how far it has come.
+
+ghost use Rattle.std.specs.Prelude.{◌≤◌, ◌+◌, length};
+ghost use Rattle.arrayvec.specs.ArrayVec.{array_vec_len};
+
+use host_io::text::{Line, put, put_number};
+use state_search::{Progress, Watch};
+use std::rt::Clock;
+use std::time::Instant;
+use xk_ports::{Sink, put_all};
+
+/// How many seconds nothing is told.
+const PAUSE: u64 = 1;
+
+/// Tells about once a second how far a search has come.
+#[derive(Drop)]
+pub struct Teller<'a, C: Clock, N: Sink> {
+    clock: &'a C,
+    notes: &'a mut N,
+    /// Whether anybody looks.
+    is_seen: bool,
+    last: Option<Instant>,
+}
+
+/// Appends a text and a number; one above those of 32 bits is told as the greatest of them.
+fn put_count(line: &mut Line, text: &[u8], count: usize)
+    requires { array_vec_len line.old + length text.now + 10 ≤ 256 }
+    ensures { array_vec_len line.new ≤ array_vec_len line.old + length text.now + 10 }
+{
+    put(line, text);
+    put_number(line, count.min(u32::MAX as usize) as u32);
+}
+
+/// The line of so much progress.
+fn line_of(progress: Progress) -> Line {
+    let mut line = Line::new();
+    put_count(&mut line, b"states ", progress.nodes);
+    put_count(&mut line, b" followed ", progress.expanded);
+    let frontier = progress.nodes.saturating_sub(progress.expanded);
+    put_count(&mut line, b" frontier ", frontier);
+    put(&mut line, b"\n");
+    line
+}
+
+impl<'a, C: Clock, N: Sink> Teller<'a, C, N> {
+    /// Tells on the notes, where they are seen.
+    pub fn new(clock: &'a C, notes: &'a mut N, is_seen: bool) -> Teller<'a, C, N> {
+        Teller {
+            clock,
+            notes,
+            is_seen,
+            last: None,
+        }
+    }
+
+    /// Whether it was told long ago, or never; the first call is told of never.
+    fn is_due(&mut self) -> bool {
+        let Ok(now) = Instant::now(self.clock) else {
+            return false;
+        };
+        match self.last {
+            Some(last) if now.duration_since(last).as_secs() < PAUSE => false,
+            Some(_) => {
+                self.last = Some(now);
+                true
+            }
+            None => {
+                self.last = Some(now);
+                false
+            }
+        }
+    }
+}
+
+impl<'a, C: Clock, N: Sink> Watch for Teller<'a, C, N> {
+    fn see(&mut self, progress: Progress) {
+        if self.is_seen && self.is_due() {
+            let _ = put_all(self.notes, line_of(progress).as_slice());
+        }
+    }
+}
