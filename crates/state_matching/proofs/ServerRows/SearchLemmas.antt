@@ -87,23 +87,23 @@ module _ {A : Type 0} (key : A → ℕ) where
         elim (cases_Bool (passes x)) [
           | inl does ↦ any_at passes rows i within (λ d. ap passes (is d) ∙ does) ∙ sym does
           | inr doesnt ↦ none_at passes rows (λ j d lt. elim (cases_lt j i) [
-              | inl low ↦ (
-                  let less = less_at None rows j i d ascend low within in
+            | inl low ↦ (
+                let less = less_at None rows j i d ascend low within in
+                let there = own_at d in
+                fails_apart (get_or rows j d) (λ same. omega (arith, less, there, same))
+                )
+            | inr high ↦ elim (cases_lt i j) [
+              | inl above ↦ (
+                  let less = less_at None rows i j d ascend above lt in
                   let there = own_at d in
                   fails_apart (get_or rows j d) (λ same. omega (arith, less, there, same))
                   )
-              | inr high ↦ elim (cases_lt i j) [
-                  | inl above ↦ (
-                      let less = less_at None rows i j d ascend above lt in
-                      let there = own_at d in
-                      fails_apart (get_or rows j d) (λ same. omega (arith, less, there, same))
-                      )
-                  | inr below ↦ (
-                      let here : j ≡ i = omega arith in
-                      ap (λ (n : ℕ). passes (get_or rows n d)) here ∙ ap passes (is d) ∙ doesnt
-                      )
-                ]
-            ]) ∙ sym doesnt
+              | inr below ↦ (
+                  let here : j ≡ i = omega arith in
+                  ap (λ (n : ℕ). passes (get_or rows n d)) here ∙ ap passes (is d) ∙ doesnt
+                  )
+            ]
+          ]) ∙ sym doesnt
         ]
 
     pub found_alone : (rows : List A) (r : Result ℕ ℕ) (i : ℕ) (x : A) → r ≡ Ok i → Ascend key rows → IsSearchInRange r (length rows)
