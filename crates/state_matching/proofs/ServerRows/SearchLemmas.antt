@@ -6,6 +6,8 @@ use Rattle.std.specs.List.Sorted.{IsBinarySearchResult, IsSearchInRange}
 use Rattle.std.specs.declared.cmp.Ordering.{Ordering}
 use Rattle.std.specs.declared.cmp.Ordering.TheVariants.{Less, Equal, Greater}
 use Rattle.std.specs.Ordering.{MatchOrdering, nat_cmp, ordering_index}
+use Rattle.std.proofs.lemmas.List.{get_or_default}
+use Rattle.std.proofs.lemmas.List.Folds.{list_any_at, list_any_none}
 use Rattle.std.proofs.lemmas.Cmp.{ranked as ranks}
 use Rattle.std.proofs.lemmas.Bool.{cases_Bool, cases_lt, eqb-true, and_parts}
 use Rattle.state_rows.specs.Order.{after, Ascend, AreInOrder}
@@ -20,28 +22,6 @@ rises a b k Equal Greater first second low = omega arith
 rises a b k Greater Less first second low = absurd (omega arith)
 rises a b k Greater Equal first second low = absurd (omega arith)
 rises a b k Greater Greater first second low = omega arith
-
--- ---- of any test
-
-any_at : {A : Type 0} (test : A → Bool) (rows : List A) (i : ℕ) → i < length rows → ((d : A) → test (get_or rows i d) ≡ true) → list_any test rows ≡ true
-any_at test [] i within passes = absurd (omega (arith, within))
-any_at test (x ∷ rows) zero within passes = rw (passes x) refl
-any_at test (x ∷ rows) (suc i) within passes =
-    let rest : list_any test rows ≡ true = any_at test rows i (omega (arith, within)) passes in
-    elim (cases_Bool (test x)) [
-      | inl does ↦ rw does refl
-      | inr doesnt ↦ rw (doesnt, rest) refl
-    ]
-
-none_at : {A : Type 0} (test : A → Bool) (rows : List A) → ((i : ℕ) (d : A) → i < length rows → test (get_or rows i d) ≡ false) → list_any test rows ≡ false
-none_at test [] fails = refl
-none_at test (x ∷ rows) fails = rw (fails zero x (omega arith), none_at test rows (λ i d within. fails (suc i) d (omega (arith, within)))) refl
-
--- the default matters past the end alone
-at_same : {A : Type 0} (rows : List A) (i : ℕ) (d e : A) → i < length rows → get_or rows i d ≡ get_or rows i e
-at_same [] i d e within = absurd (omega (arith, within))
-at_same (x ∷ rows) zero d e within = refl
-at_same (x ∷ rows) (suc i) d e within = at_same rows i d e (omega (arith, within))
 
 module _ {A : Type 0} (key : A → ℕ) where
   abbrev Form : Option ℕ → A → Type 0
@@ -79,14 +59,14 @@ module _ {A : Type 0} (key : A → ℕ) where
     alone : (rows : List A) (i : ℕ) (x : A) → Ascend key rows → i < length rows → ((d : A) → nat_cmp (key (get_or rows i d)) k ≡ Equal)
         → x ≡ get_or rows i x → list_any passes rows ≡ passes x
     alone rows i x ascend within equal at =
-        let is : (d : A) → get_or rows i d ≡ x = λ d. at_same rows i d x within ∙ sym at in
+        let is : (d : A) → get_or rows i d ≡ x = λ d. get_or_default rows i d x within ∙ sym at in
         let own : key (get_or rows i x) ≡ k =
         subst (λ (o : Ordering). MatchOrdering o (key (get_or rows i x) < k) (key (get_or rows i x) ≡ k) (k < key (get_or rows i x))) (equal x)
         (order_of (get_or rows i x)) in
-        let own_at : (d : A) → key (get_or rows i d) ≡ k = λ d. ap key (at_same rows i d x within) ∙ own in
+        let own_at : (d : A) → key (get_or rows i d) ≡ k = λ d. ap key (get_or_default rows i d x within) ∙ own in
         elim (cases_Bool (passes x)) [
-          | inl does ↦ any_at passes rows i within (λ d. ap passes (is d) ∙ does) ∙ sym does
-          | inr doesnt ↦ none_at passes rows (λ j d lt. elim (cases_lt j i) [
+          | inl does ↦ list_any_at passes rows i x within (ap passes (is x) ∙ does) ∙ sym does
+          | inr doesnt ↦ list_any_none passes rows (λ j d lt. elim (cases_lt j i) [
             | inl low ↦ (
                 let less = less_at None rows j i d ascend low within in
                 let there = own_at d in
@@ -123,7 +103,7 @@ module _ {A : Type 0} (key : A → ℕ) where
           | inr high ↦ (let same : a ≡ b = omega arith in
               subst (λ (n : ℕ). ordering_index (nat_cmp (key (get_or rows a d)) k) ≤ ordering_index (nat_cmp (key (get_or rows n d)) k)) same (omega arith))
         ]) in
-        none_at passes rows (λ j d lt. elim (cases_lt j i) [
+        list_any_none passes rows (λ j d lt. elim (cases_lt j i) [
           | inl low ↦ (
               let below = subst (λ (o : Ordering). MatchOrdering o (key (get_or rows j d) < k) (key (get_or rows j d) ≡ k) (k < key (get_or rows j d)))
               (parted.0 j d (omega arith) low) (order_of (get_or rows j d)) in
