@@ -1,5 +1,6 @@
-pub mod OrphanLemmas
 pub mod OrphanBackLemmas
+pub mod OrphanLemmas
 pub mod OrphanLoopLemmas
+pub mod OrphanSearchLemmas
 pub mod OrphanStepLemmas
 pub mod OrphansBackLemmas

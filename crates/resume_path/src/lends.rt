@@ -9,7 +9,7 @@ ghost use Rattle.resume_path.specs.Resumable.{IsResumable, state_ledger, state_p
 ghost use Rattle.resume_path.specs.Standing.{loans_before, pages_before, standing_of};
 
 use crate::messages::{
-    first_lent, is_lend, is_orphaned, loan_kind, message, message_at, message_count,
+    first_lent_by, is_lend, is_orphaned, loan_kind, message, message_at, message_count,
 };
 use msg_queue::{Held, Queues};
 use suspend_image::State;
@@ -42,7 +42,7 @@ fn held_again<W: SwapStore>(
     if !is_lend(row) {
         return Held { msg, loan: None };
     }
-    let from = match first_lent(state.pages.as_slice(), row.number) {
+    let from = match first_lent_by(state.pages.as_slice(), row.sender_pid, row.number) {
         Some(from) => from,
         None => unreachable!(),
     };

@@ -2,7 +2,9 @@
 
 ghost use Rattle.std.specs.Prelude.{◌≡◌, ◌+◌, ◌<◌, ◌≤◌, All, IsSome, Some, length, slice_get};
 ghost use Rattle.state_rows.specs.Machines.{message_of, sender_of};
+ghost use Rattle.state_rows.specs.Order.{page_key, AscendInTwo};
 ghost use Rattle.state_rows.specs.declared.state.PageRow.{PageRow as Page};
+ghost use Rattle.xk_base.specs.declared.ids.Place.{Place as PlaceOf};
 ghost use Rattle.xk_base.specs.Calls.Kinds.{kind_at};
 ghost use Rattle.resume_path.specs.Messages.{first_lent, is_lend_row, is_orphaned, row_kind};
 ghost use Rattle.resume_path.specs.Standing.{row_messages};
@@ -91,6 +93,18 @@ pub(crate) fn first_lent(pages: &[PageRow], number: u32) -> Option<Place>
         pid: Pid(page.pid as u8),
         vpn: Vpn(page.page),
     })
+}
+
+// .. where that page is one of the process, whose pages alone are looked at, and those behind them. A process has no more loans
+// than threads, so each page is looked at a few times.
+pub(crate) fn first_lent_by(pages: &[PageRow], pid: u32, number: u32) -> Option<Place>
+    requires pids { All (λ (page : Page). page.pid < 256) pages.now }
+    requires order { AscendInTwo page_key pages.now }
+    requires lender { (at : PlaceOf) → first_lent pages.now number ≡ Some at → at.pid.0 ≡ pid }
+    ensures { result ≡ first_lent pages.now number }
+{
+    let first = pages.partition_point(|page| page.pid < pid);
+    first_lent(&pages[first..], number)
 }
 
 // How many messages a server has.

@@ -7,6 +7,7 @@ ghost use Rattle.std.specs.Prelude.{◌≡◌, ◌+◌, ◌<◌, ◌==◌, ◌&&
 ghost use Rattle.ledger_model.specs.Ledger.{Ledger, empty_ledger};
 ghost use Rattle.ledger_model.specs.Places.{in_run, place_after};
 ghost use Rattle.ledger_model.specs.Steps.{make};
+ghost use Rattle.state_rows.specs.Order.{orphan_key, AscendInTwo};
 ghost use Rattle.state_rows.specs.declared.state.OrphanRow.{OrphanRow as Orphan};
 ghost use Rattle.msg_queue.specs.Seats.{empty_seat};
 ghost use Rattle.vm_memory.specs.Memory.{IsUsable, capacity_of, frames_for_pages, ledger, processes};
@@ -31,17 +32,17 @@ use xk_ports::SwapStore;
 /// The right of a page while it is filled.
 const FILLING: Right = Right { w: true, x: false };
 
-// Where the bytes of the orphan at a place begin in the file.
+// Where the bytes of the orphan at a place begin in the file. Orphans stand in order of their places, so it is found by halving.
 fn offset(orphans: &[OrphanRow], at: Place) -> u32
-    requires { IsSome (find (λ (o : Orphan). o.pid == at.pid.0 && o.page == at.vpn.0) orphans.now) }
+    requires order { AscendInTwo orphan_key orphans.now }
+    requires there { IsSome (find (λ (o : Orphan). o.pid == at.pid.0 && o.page == at.vpn.0) orphans.now) }
     ensures { option_map (λ (o : Orphan). o.from) (find (λ (o : Orphan). o.pid == at.pid.0 && o.page == at.vpn.0) orphans.now)
         ≡ Some result }
 {
-    let orphan = orphans.iter().find(|orphan| orphan.pid == u32::from(at.pid.0)
-        && orphan.page == at.vpn.0);
-    match orphan {
-        Some(orphan) => orphan.from,
-        None => unreachable!(),
+    let key = (u32::from(at.pid.0), at.vpn.0);
+    match orphans.binary_search_by_key(&key, |orphan| (orphan.pid, orphan.page)) {
+        Ok(i) => orphans[i].from,
+        Err(_) => unreachable!(),
     }
 }
 

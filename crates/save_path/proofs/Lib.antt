@@ -18,3 +18,4 @@ pub mod SheetLemmas
 pub mod SizeLemmas
 pub mod TableLemmas
 pub mod TextLemmas
+pub mod UsedLemmas

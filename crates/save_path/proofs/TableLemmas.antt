@@ -101,6 +101,12 @@ count_ends xs k e low = elim (slice_get_cases xs k).1 [
   | inr h ↦ let past = h.0 in omega arith
 ]
 
+pub count_at_most : {A : Type 0} (xs : List A) (k : ℕ) → is_some (slice_get xs k) ≡ false → length xs ≤ k
+count_at_most xs k e = elim (slice_get_cases xs k).1 [
+  | inl h ↦ absurd (false≢true (sym e ∙ ap is_some h.2))
+  | inr h ↦ let past = h.0 in omega arith
+]
+
 -- ---- processes
 
 pub connections_shown : (o : Option ProcessState) → connections_of o ≡ (process_of o).connections

@@ -52,3 +52,8 @@ pub record AppendsText (known : Type 0) (old new : SheetBytes) (text : Option Pa
   pub told : known → written ≡ text
   pub few : length (text_if written) ≤ 4124
   pub is : new ≡ appended (text_if written) old
+
+-- neither a home nor an orphan's place
+pub record HasNoPage (ledger : Ledger) (at : Place) : Type 0 where
+  pub home : ledger.home at ≡ None
+  pub orphan : ledger.orphan at ≡ None

@@ -9,6 +9,7 @@ mod processes;
 mod saving;
 mod servers;
 mod threads;
+mod used;
 
 pub use numbers::Numbers;
 pub use places::{PLACES_OF_PROCESS, place_at};

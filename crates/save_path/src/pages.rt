@@ -17,6 +17,7 @@ ghost use Rattle.suspend_image.specs.SavedRows.{loan_number, orphan_row, page_ro
 ghost use Rattle.save_path.specs.Written.{AppendsTexts, BringsPages, Fits};
 
 use crate::places::{PLACES_OF_PROCESS, place_at};
+use crate::used::next_used;
 use phys_pages::LoanInfo;
 use suspend_image::{OrphanRow, PageRow, Sheet, write_orphan_words, write_page_words};
 use vm_memory::{Here, Memory};
@@ -188,6 +189,7 @@ pub(crate) fn write_homes<W: SwapStore>(
     requires sound { IsSound W.slot_count mem.old }
     requires usable { IsUsable mem.old }
     requires procs { procs ≤ PROCESS_LIMIT }
+    requires made { procs ≡ processes mem.old }
     requires room { Fits sheet.old (4 + 4124 * (length (home_texts procs (ledger W.held mem.old)) + 1)) }
     ensures brings { BringsPages W.SwapStore mem.old mem.new }
     ensures usable { OnOk result (IsUsable mem.new) }
@@ -199,9 +201,12 @@ pub(crate) fn write_homes<W: SwapStore>(
 {
     let at = sheet.as_slice().len() as u32;
     sheet.push_word(0);
+    let end = PLACES_OF_PROCESS * procs;
     let mut many = 0;
-    for number in 0..PLACES_OF_PROCESS * procs {
+    let mut number = next_used(mem, 0, end);
+    'places: while number < end {
         many += u32::from(write_home(mem, sheet, number)?);
+        number = next_used(mem, number + 1, end);
     }
     sheet.set_word(at, many);
     Ok(())
@@ -216,6 +221,7 @@ pub(crate) fn write_orphans<W: SwapStore>(
     requires sound { IsSound W.slot_count mem.old }
     requires usable { IsUsable mem.old }
     requires procs { procs ≤ PROCESS_LIMIT }
+    requires made { procs ≡ processes mem.old }
     requires room { Fits sheet.old (4 + 4124 * (length (orphan_texts procs (ledger W.held mem.old)) + 1)) }
     ensures brings { BringsPages W.SwapStore mem.old mem.new }
     ensures usable { OnOk result (IsUsable mem.new) }
@@ -227,9 +233,12 @@ pub(crate) fn write_orphans<W: SwapStore>(
 {
     let at = sheet.as_slice().len() as u32;
     sheet.push_word(0);
+    let end = PLACES_OF_PROCESS * procs;
     let mut many = 0;
-    for number in 0..PLACES_OF_PROCESS * procs {
+    let mut number = next_used(mem, 0, end);
+    'places: while number < end {
         many += u32::from(write_orphan(mem, sheet, number)?);
+        number = next_used(mem, number + 1, end);
     }
     sheet.set_word(at, many);
     Ok(())

@@ -63,32 +63,44 @@ fn message_row(message: Message) -> MessageRow
     }
 }
 
-// How many messages are queued at the seat.
+// How many messages are queued at the seat: there is one at each place below, which is found by halving.
 fn queued_count(queues: &Queues, seat: u8) -> u32
     requires { seat < SERVER_LIMIT }
     ensures { result ≡ length (seat_of queues.now seat).queued }
 {
-    let _few = queues.used(seat);
-    for k in 0..MESSAGE_LIMIT {
-        if queues.queued_at(seat, k).is_none() {
-            return k;
+    // For the prover: there are few.
+    let _few = queues.is_full(seat);
+    let mut low = 0;
+    let mut high = MESSAGE_LIMIT;
+    'halves: while low < high {
+        let middle = (low + high) / 2;
+        if queues.queued_at(seat, middle).is_some() {
+            low = middle + 1;
+        } else {
+            high = middle;
         }
     }
-    MESSAGE_LIMIT
+    low
 }
 
-// How many it holds.
+// How many it holds, found likewise.
 fn held_count(queues: &Queues, seat: u8) -> u32
     requires { seat < SERVER_LIMIT }
     ensures { result ≡ length (seat_of queues.now seat).held }
 {
-    let _few = queues.used(seat);
-    for k in 0..MESSAGE_LIMIT {
-        if queues.held_at(seat, k).is_none() {
-            return k;
+    // For the prover: there are few.
+    let _few = queues.is_full(seat);
+    let mut low = 0;
+    let mut high = MESSAGE_LIMIT;
+    'halves: while low < high {
+        let middle = (low + high) / 2;
+        if queues.held_at(seat, middle).is_some() {
+            low = middle + 1;
+        } else {
+            high = middle;
         }
     }
-    MESSAGE_LIMIT
+    low
 }
 
 // Appends so many queued messages of the seat, the oldest first.
@@ -145,7 +157,8 @@ fn write_server(sheet: &mut Sheet, queues: &Queues, seated: Seated)
     let Seated { seat, server } = seated;
     let queued = queued_count(queues, seat);
     let held = held_count(queues, seat);
-    let _few = queues.used(seat);
+    // For the prover: there are few.
+    let _few = queues.is_full(seat);
     sheet.push_words(&sid_words(server.sid));
     sheet.push_words(&[server.serial.0, u32::from(server.pid.0), queued, held]);
     write_queued(sheet, queues, seat, queued);

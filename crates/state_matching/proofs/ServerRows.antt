@@ -1,6 +1,7 @@
 pub mod CountedLemmas
 pub mod MessageLemmas
 pub mod NextLemmas
+pub mod SearchLemmas
 pub mod SenderLemmas
 pub mod SentWaitLemmas
 pub mod ServerLemmas

@@ -30,15 +30,20 @@ fn is_awaited(thread: &ThreadRow, server: &ServerRow) -> bool
     server.serial == thread.waits && server.pid == thread.pid && server.queued.as_slice().is_empty()
 }
 
-/// Whether it is one of these.
+/// Whether it is one of these, which stand in order of their serials: it is found by halving.
 fn is_one_awaited(servers: &[ServerRow], thread: &ThreadRow) -> bool
+    requires { Ascend server_key servers.now }
     ensures { result ≡ list_any (is_awaited_of thread.now) servers.now }
 {
-    servers.iter().any(|server| is_awaited(thread, server))
+    match servers.binary_search_by_key(&thread.waits, |server| server.serial) {
+        Ok(i) => is_awaited(thread, &servers[i]),
+        Err(_) => false,
+    }
 }
 
 /// Whether a thread that is Receiving waits at such a server.
 fn awaits_server(servers: &[ServerRow], thread: &ThreadRow) -> bool
+    requires { Ascend server_key servers.now }
     ensures { result ≡ awaits_server_of servers.now thread.now }
 {
     thread.state != RECEIVING || is_one_awaited(servers, thread)
@@ -46,6 +51,7 @@ fn awaits_server(servers: &[ServerRow], thread: &ThreadRow) -> bool
 
 /// Whether each does.
 fn all_await_servers(servers: &[ServerRow], threads: &[ThreadRow]) -> bool
+    requires { Ascend server_key servers.now }
     ensures { result ≡ list_all (awaits_server_of servers.now) threads.now }
 {
     threads.iter().all(|thread| awaits_server(servers, thread))

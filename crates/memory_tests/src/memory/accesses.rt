@@ -15,7 +15,7 @@ use xk_base::{Failed, Pid, Stored, UserMemory, Width};
 use xk_ports::SwapStore;
 
 /// What a process does at an address, with what it is told.
-#[derive(Clone, Copy, Debug, PartialEq, Eq)]
+#[derive(Clone, Copy)]
 pub enum Does {
     Fetch(Option<u32>),
     Load(Option<u32>),
@@ -24,7 +24,7 @@ pub enum Does {
 }
 
 /// An access at an address that is aligned to its width.
-#[derive(Clone, Copy, Debug, PartialEq, Eq)]
+#[derive(Clone, Copy)]
 pub struct Try(pub u32, pub Width, pub Does);
 
 fn expect_aligned(rt: &impl Abort, va: u32, width: Width)

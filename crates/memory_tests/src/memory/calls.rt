@@ -19,7 +19,7 @@ type Made = Result<Vpn, XousError>;
 type Changed = Result<(), XousError>;
 
 /// A call, with what it answers.
-#[derive(Clone, Copy, Debug, PartialEq, Eq)]
+#[derive(Clone, Copy)]
 pub enum Call {
     /// Makes so many pages that can be stored to.
     Make(Window, Option<Vpn>, u32, Made),

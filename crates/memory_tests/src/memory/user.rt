@@ -47,7 +47,7 @@ const ACCESSES: [Try; 18] = [
 ];
 
 // How a process finds its pages: by a walk at each access, or by what it knows of the last ones.
-#[derive(Clone, Copy, Debug, PartialEq, Eq)]
+#[derive(Clone, Copy)]
 enum Finds {
     Walks,
     Knows,

@@ -98,7 +98,7 @@ const CONSOLE: [Call; 4] = [
 ];
 
 // Which pages a script is of.
-#[derive(Clone, Copy, Debug, PartialEq, Eq)]
+#[derive(Clone, Copy)]
 enum Kind {
     Heap,
     Map,

@@ -57,7 +57,7 @@ module _ {A K : Type 0} (key : A → K) (test : K → A → Bool) (less : K → 
 
 -- ---- the first page of a loan
 
-abbrev test_of : ℕ × ℕ → PageRow → Bool
+abbrev pub test_of : ℕ × ℕ → PageRow → Bool
 test_of key row = row.pid == key.0 && row.page == key.1
 
 lent_where : (b : Bool) (l loan : PageLoan) → (if b then None else Some l) ≡ Some loan → (b ≡ false) × (l ≡ loan)

@@ -144,6 +144,14 @@ module _ {W : Type 0} (S : SwapStore W) (file : List ℕ) (s : State)
     lender_found lends apart =
         let lender = lender_stands file s h i server there k row at lends apart in ap is_some (lender_first lends apart lender.0 lender.1)
 
+    -- .. which is a page of its sender's process
+    pub lender_is : is_lend_row row ≡ true → is_orphaned row ≡ false → (from : Place) → first_lent s.pages row.number ≡ Some from
+        → from.pid.0 ≡ row.sender_pid
+    lender_is lends apart from found =
+        let lender = lender_stands file s h i server there k row at lends apart in
+        ap (λ (p : Place). p.pid.0) (same_Some from lender.0 (sym found ∙ lender_first lends apart lender.0 lender.1))
+        ∙ lender.2
+
     module _ (lends : is_lend_row row ≡ true) (apart : is_orphaned row ≡ false) (from : Place) (found : first_lent s.pages row.number ≡ Some from)
         (old : Memory W) (procs : processes old ≡ s.n)
         (come : Comes old (standing_of file s (loans_before s.servers i k))) where

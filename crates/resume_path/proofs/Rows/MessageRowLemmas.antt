@@ -28,6 +28,7 @@ use Rattle.state_rows.specs.declared.state.ServerRow.{ServerRow}
 use Rattle.state_rows.specs.declared.state.State.{State}
 use Rattle.xk_base.specs.Calls.Kinds.{is_answered, kind_at}
 use Rattle.xk_base.specs.declared.ids.Number.{Number}
+use Rattle.xk_base.specs.declared.ids.Pid.{Pid}
 use Rattle.xk_base.specs.declared.ids.Place.{Place}
 use Rattle.xk_base.specs.declared.messages.MsgKind.TheVariants.{LendMut, Lend, Move, Scalar, BlockingScalar}
 use Rattle.xk_base.specs.declared.pages.LoanKind.TheVariants.{Shared, Exclusive}
@@ -261,14 +262,15 @@ module _ (file : List ℕ) (s : State) (h : IsResumable file s) where
           let none : sender_of row ≡ None = ap (λ b. if b then None else Some (thread_at_id row.sender_pid row.sender_tid)) both.1 in
           subst (IsOnLoan (loans whole) (server_of server) (message_of row) (row_kind row)) none (lend_matched both.0).loan
 
-      -- .. and of any other lend
-      pub lender_stands : is_lend_row row ≡ true → is_orphaned row ≡ false → (lender : Place) × Stands (loans whole) (run_from (Some lender))
+      -- .. and of any other lend, from places of its sender's process
+      pub lender_stands : is_lend_row row ≡ true → is_orphaned row ≡ false
+          → (lender : Place) × Stands (loans whole) (run_from (Some lender)) × (lender.pid.0 ≡ row.sender_pid)
       lender_stands lends apart =
           let lived : (row.sender_pid == 0) ≡ false = sym (ap (λ b. b && (row.sender_pid == 0)) lends) ∙ apart in
           let some : sender_of row ≡ Some (thread_at_id row.sender_pid row.sender_tid) =
           ap (λ b. if b then None else Some (thread_at_id row.sender_pid row.sender_tid)) lived in
           let loan = subst (IsOnLoan (loans whole) (server_of server) (message_of row) (row_kind row)) some (lend_matched lends).loan in
-          (loan.0, loan.2)
+          (loan.0, loan.2, ap (λ (pid : Pid). pid.0) loan.1)
 
       -- a message that lends nothing has the number of no loan
       fresh_number : is_lend_row row ≡ false → (number : Number) → number.0 ≡ row.number → HasOne (servers_of s.servers) (is_lend_of number) → ⊥

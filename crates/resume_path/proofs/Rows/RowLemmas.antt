@@ -57,6 +57,15 @@ module _ {A K : Type 0} (key : A → K) (test : K → A → Bool) (less : K → 
   above_at before (y ∷ rows) (suc k) d forms low =
       through before (key y) (key (get_or rows k d)) (behind before y forms.0) (above_at (key y) rows k d forms.1 (omega (arith, low)))
 
+  -- of two rows the first has the lower key
+  pub less_at : (before : Option K) (rows : List A) (i j : ℕ) (d : A) → AreInOrder form key before rows → i < j → j < length rows
+      → less (key (get_or rows i d)) (key (get_or rows j d))
+  less_at before [] i j d forms low within = absurd (omega (arith, within))
+  less_at before (y ∷ rows) i zero d forms low within = absurd (omega (arith, low))
+  less_at before (y ∷ rows) zero (suc j) d forms low within = above_at (key y) rows j d forms.1 (omega (arith, within))
+  less_at before (y ∷ rows) (suc i) (suc j) d forms low within =
+      less_at (Some (key y)) rows i j d forms.1 (omega (arith, low)) (omega (arith, within))
+
   -- no row before it has the key of a row
   pub none_before : (before : Option K) (rows : List A) (k : ℕ) (d : A) → AreInOrder form key before rows → k < length rows
       → find (test (key (get_or rows k d))) (take k rows) ≡ None

@@ -39,7 +39,7 @@ receives state waits serial e =
     (eqb-true state 1 told.0, told.1)
 
 -- of the process of that server, whose queue is empty
-abbrev is_own : ThreadRow → ServerRow → Bool
+abbrev pub is_own : ThreadRow → ServerRow → Bool
 is_own t s = eqb s.pid t.pid && eqb (length s.queued) 0
 
 server_any : (t : ThreadRow) (servers : List ServerRow) → Ascend server_key servers → list_any (is_awaited t) servers ≡ true

@@ -1,6 +1,8 @@
-use Rattle.std.proofs.Common.{arith, ◌+◌, ◌∙◌}
+use Rattle.std.proofs.Common.{arith, ◌+◌, subst, sym, ◌∙◌}
 use Rattle.std.specs.Prelude.{slice_range}
 use Rattle.ledger_model.specs.Places.{place_after}
+use Rattle.state_rows.specs.Order.{AscendInTwo, orphan_key}
+use Rattle.suspend_image.proofs.OrderLemmas.{orphans_ascend}
 use Rattle.resume_path.proofs.Orphaned.OrphanStepLemmas.{filled_all, filled_next, filled_none, filling_failed, filling_full, next_may, next_reached, orphan_found, orphan_read, orphan_stands, page_part, part_long}
 use Rattle.resume_path.specs.Resumable.{state_ledger}
 use Rattle.resume_path.proofs.orphans.fill_orphans.Goals as goal
@@ -11,8 +13,12 @@ orphans-init g c =
     filled_none g.W.SwapStore
     (state_ledger c.args.file.now c.args.state.now) c.args.from c.args.n c.args.to c.args.mem.now c.requires.sound c.requires.usable
 
-pub offset-begin-requires : goal.offset-begin-requires
-offset-begin-requires g c =
+pub offset-begin-requires-clause-order : goal.offset-begin-requires-clause-order
+offset-begin-requires-clause-order g c =
+    subst (AscendInTwo orphan_key) (sym c.as_slice.ensures) (orphans_ascend c.args.file.now c.args.state.now c.requires.resumable.spelled)
+
+pub offset-begin-requires-clause-there : goal.offset-begin-requires-clause-there
+offset-begin-requires-clause-there g c =
     orphan_found c.args.file.now c.args.state.now c.requires.resumable (place_after c.args.to c.orphans.i) (c.requires.there c.orphans.i c.orphans-test.true)
     c.as_slice.result.now c.as_slice.ensures
 

@@ -18,7 +18,7 @@ push_words-requires-2 c =
 
 pub write_queued-requires-clause-room : goal.write_queued-requires-clause-room
 write_queued-requires-clause-room c =
-    let few = c.used-few.ensures.few in
+    let few = c.is_full-few.ensures.few in
     let queued = c.queued_count-queued.ensures in
     (seat_room c.args.sheet.now c.sid_words.result c.sid_words.ensures.four c.requires.room).queued c.push_words.new.self c.push_words-2.new.self _ _ _ _
     c.push_words.ensures c.push_words-2.ensures
@@ -26,7 +26,7 @@ write_queued-requires-clause-room c =
 
 pub write_held-requires-clause-room : goal.write_held-requires-clause-room
 write_held-requires-clause-room c =
-    let few = c.used-few.ensures.few in
+    let few = c.is_full-few.ensures.few in
     let queued = c.queued_count-queued.ensures in
     let held = c.held_count-held.ensures in
     (seat_room c.args.sheet.now c.sid_words.result c.sid_words.ensures.four c.requires.room).held c.push_words.new.self c.push_words-2.new.self
@@ -37,7 +37,7 @@ pub returns-clause-row : goal.returns-clause-row
 returns-clause-row c =
     let seat = seat_of c.args.queues.now c.args.seated.seat in
     let row = server_row c.args.seated.server.serial.0 (server_with seat (table_server c.args.seated)) in
-    let few = c.used-few.ensures.few in
+    let few = c.is_full-few.ensures.few in
     let queued = c.queued_count-queued.ensures in
     let held = c.held_count-held.ensures in
     server_appended row c.args.sheet.now c.push_words.new.self c.push_words-2.new.self c.write_queued.new.sheet c.write_held.new.sheet
