@@ -6,6 +6,7 @@ ghost use Rattle.trace_text.specs.Words.{hex_text, word_text};
 
 use arrayvec::ArrayVec;
 use itoa::Buffer;
+use trace_text::word_digits;
 
 /// A line. The longest, the usage line, has 192 bytes.
 pub type Line = ArrayVec<u8, 256>;
@@ -33,29 +34,20 @@ pub fn put_number(line: &mut Line, number: u32)
 }
 
 /// Appends a word as eight hexadecimal digits.
-#[tactic(auto, using(trace_text::proofs::DigitLemmas::encoded_word))]
 pub fn put_word(line: &mut Line, word: u32)
     requires { array_vec_len line.old + 8 ≤ 256 }
     ensures text { line.new.items ≡ line.old.items ++ word_text word }
     ensures len { array_vec_len line.new ≡ array_vec_len line.old + 8 }
 {
-    let mut digits = [0u8; 8];
-    match hex::encode_to_slice(word.to_be_bytes().as_slice(), &mut digits) {
-        Ok(()) => put(line, &digits),
-        Err(_) => unreachable!(),
-    }
+    put(line, &word_digits(word));
 }
 
 /// Appends the five lowest hexadecimal digits of a number.
-#[tactic(auto, using(trace_text::proofs::DigitLemmas::encoded_word))]
 pub fn put_five_digits(line: &mut Line, number: u32)
     requires { array_vec_len line.old + 5 ≤ 256 }
     ensures text { line.new.items ≡ line.old.items ++ hex_text 5 number }
     ensures len { array_vec_len line.new ≡ array_vec_len line.old + 5 }
 {
-    let mut digits = [0u8; 8];
-    match hex::encode_to_slice(number.to_be_bytes().as_slice(), &mut digits) {
-        Ok(()) => put(line, &digits[3..]),
-        Err(_) => unreachable!(),
-    }
+    let digits = word_digits(number);
+    put(line, &digits[3..]);
 }

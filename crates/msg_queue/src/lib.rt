@@ -3,9 +3,11 @@
 
 mod held;
 mod links;
+mod messages;
 mod queues;
 mod ring;
 mod walks;
 
 pub use held::Held;
+pub use messages::Messages;
 pub use queues::Queues;

@@ -1,12 +1,13 @@
 //! The messages of all servers, by seat.
 
-ghost use Rattle.std.specs.Prelude.{◌≡◌, ◌++◌, ◌<◌, ◌≤◌, ◌↔◌, IsTrue, IfOk, All, length, replicate, slice_get};
+ghost use Rattle.std.specs.Prelude.{◌≡◌, ◌++◌, ◌<◌, ◌≤◌, ◌↔◌, IsTrue, IfOk, All, length, map, replicate, slice_get};
 ghost use Rattle.std.specs.Option.{option_copied, option_map};
 ghost use Rattle.xk_base.specs.declared.limits.TheConstants.{SERVER_LIMIT, MESSAGE_LIMIT};
 ghost use Rattle.msg_queue.specs.Seats.{seat_of, empty_seat, used_of, of_number, place_found, message_of, IsFirstOf, changed_at};
 ghost use Rattle.msg_queue.specs.Seats.{with_queued, with_held, with_held_at, without_queued_at, without_queued, without_held};
 
 use crate::held::Held;
+use crate::messages::Messages;
 use crate::ring::Ring;
 use std::alloc::Global;
 use std::marker::Model;
@@ -188,5 +189,23 @@ impl Queues {
     {
         let ring = &self.rings[seat as usize];
         ring.held_at(i)
+    }
+
+    /// The queued messages, the oldest first, each found from the one before it.
+    pub fn queued_messages(&self, seat: u8) -> Messages<'_>
+        requires { seat < SERVER_LIMIT }
+        ensures { result ≡ map message_of (seat_of self.now seat).queued }
+    {
+        let ring = &self.rings[seat as usize];
+        ring.queued_messages()
+    }
+
+    /// The held messages, in the order in which they stand.
+    pub fn held_messages(&self, seat: u8) -> Messages<'_>
+        requires { seat < SERVER_LIMIT }
+        ensures { result ≡ map message_of (seat_of self.now seat).held }
+    {
+        let ring = &self.rings[seat as usize];
+        ring.held_messages()
     }
 }

@@ -1,12 +1,13 @@
 //! The messages of one server, in a ring of slots.
 
-ghost use Rattle.std.specs.Prelude.{◌≡◌, ◌++◌, IfOk, ◌<◌, ◌≤◌, ◌↔◌, IsTrue, length, slice_get};
+ghost use Rattle.std.specs.Prelude.{◌≡◌, ◌++◌, IfOk, ◌<◌, ◌≤◌, ◌↔◌, IsTrue, length, map, slice_get};
 ghost use Rattle.std.specs.Option.{option_copied, option_map};
 ghost use Rattle.msg_queue.specs.Seats.{empty_seat, used_of, of_number, place_found, message_of, IsFirstOf};
 ghost use Rattle.msg_queue.specs.Seats.{with_queued, with_held, with_held_at, without_queued_at, without_queued, without_held};
 
 use crate::held::Held;
 use crate::links::{NONE, SLOTS, put_in, take_out};
+use crate::messages::Messages;
 use crate::walks::{Spot, least_of, length_of, message_in, message_place, spot_at, spot_of};
 use std::alloc::Global;
 use std::marker::Model;
@@ -236,6 +237,20 @@ impl Ring {
     {
         let spot = spot_at(self.next.as_slice(), self.held, place);
         message_in(self.slots.as_slice(), spot.slot)
+    }
+
+    /// The queued messages, the oldest first.
+    pub fn queued_messages(&self) -> Messages<'_>
+        ensures { result ≡ map message_of self.now.queued }
+    {
+        Messages::from_slot(self.slots.as_slice(), self.next.as_slice(), self.queued)
+    }
+
+    /// The held messages, in the order in which they stand.
+    pub fn held_messages(&self) -> Messages<'_>
+        ensures { result ≡ map message_of self.now.held }
+    {
+        Messages::from_slot(self.slots.as_slice(), self.next.as_slice(), self.held)
     }
 
     /// The held message of that number.

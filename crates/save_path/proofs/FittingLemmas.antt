@@ -1,11 +1,10 @@
 -- What a kernel has beside its pages fits into words, key by key; and so the machine is one that state bytes are read as again.
-use Rattle.std.proofs.Common.{◌≡◌, ℕ, zero, suc, ◌+◌, ◌<◌, ◌≤◌, Bool, true, false, ltb, List, ◌∷◌, get_or, length, map, drop, drop-cons, Option, Some, None, refl, sym, ap, subst, ◌∙◌, arith}
-use Rattle.std.specs.Prelude.{All, IsTrue, nat_le, nat_lt}
-use Rattle.std.specs.List.{slice_get}
+use Rattle.std.proofs.Common.{◌≡◌, ℕ, zero, suc, ◌+◌, ◌<◌, ◌≤◌, Bool, true, false, ltb, List, ◌∷◌, get_or, length, drop, drop-cons, Option, Some, None, refl, sym, ap, subst, ◌∙◌, arith}
+use Rattle.std.specs.Prelude.{IsTrue, nat_le, nat_lt}
 use Rattle.std.specs.Option.{option_map}
 use Rattle.std.proofs.lemmas.Bool.{and_parts, eqb-true, leb-true, ltb-false, ltb-true}
-use Rattle.std.proofs.lemmas.List.Elements.{All-from_get_or, All-get_or, All-map}
-use Rattle.std.proofs.lemmas.Option.{none-some, same_Some, slice_get-get_or}
+use Rattle.std.proofs.lemmas.List.Elements.{All-from_get_or, All-get_or}
+use Rattle.std.proofs.lemmas.Option.{none-some, same_Some}
 use borrow.Author.Count.{below_more}
 use Rattle.ledger_model.specs.Ledger.{Orphan, Page, PageLoan, loan_at}
 use Rattle.ledger_model.specs.Loans.{loan_of_orphan, loans, orphan_loan_at}
@@ -51,12 +50,6 @@ each_gap f Is low n below none k v under e = go (ltb k low) refl
     go : (b : Bool) → ltb k low ≡ b → Is v
     go true q = below k v (ltb-true k low q) e
     go false q = let behind = ltb-false k low q in absurd (none-some v (sym (none k (omega arith) under) ∙ e))
-
--- each of a list
-pub each_listed : {A B : Type 0} (f : A → B) (Is : B → Type 0) (xs : List A) (n : ℕ) → length xs ≤ n
-    → EachBelow n (λ k. option_map f (slice_get xs k)) Is → All Is (map f xs)
-each_listed f Is xs n le each =
-    All-map Is f xs (λ k d low. each k (f (get_or xs k d)) (omega arith) (ap (option_map f) (slice_get-get_or xs k d low)))
 
 -- ---- registers
 

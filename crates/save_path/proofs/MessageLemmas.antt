@@ -1,42 +1,99 @@
 -- The messages of a seat, and a server with its messages.
-use Rattle.std.proofs.Common.{◌≡◌, ℕ, ◌+◌, ◌*◌, ◌≤◌, List, [], ◌∷◌, ◌++◌, map, length, Option, refl, sym, ap, ◌∙◌, arith}
-use Rattle.std.specs.List.{flat_map, slice_get}
-use Rattle.std.specs.Option.{option_map}
-use Rattle.std.proofs.lemmas.List.{length-map}
+use Rattle.std.proofs.Common.{◌≡◌, ℕ, ◌+◌, ◌*◌, ◌≤◌, List, [], ◌∷◌, ◌++◌, map, length, refl, sym, ap, subst, ◌∙◌, append_assoc, append-nil, arith}
+use Rattle.std.specs.Prelude.{All}
+use Rattle.std.specs.List.{flat_map}
+use Rattle.std.proofs.lemmas.Grind.{flat_map-append}
+use Rattle.std.proofs.lemmas.List.{length-append, length-map, map-append}
+use Rattle.std.proofs.lemmas.List.Elements.{All-nil, All-push}
 use Rattle.msg_queue.specs.Seats.{message_of}
 use Rattle.msg_queue.specs.declared.held.Held.{Held}
-use Rattle.suspend_image.proofs.Sheets.SpellingLemmas.{length-word_bytes, server_in_four, server_middle}
+use Rattle.suspend_image.proofs.Sheets.SpellingLemmas.{length-word_bytes, none_appended, server_in_four, server_middle}
 use Rattle.suspend_image.specs.Sheets.{HasRoom, SheetBytes, appended}
 use Rattle.suspend_image.specs.Spelling.{message_bytes, server_bytes}
 use Rattle.suspend_image.specs.Words.{word_bytes}
 use Rattle.state_rows.specs.declared.state.MessageRow.{MessageRow}
 use Rattle.state_rows.specs.declared.state.ServerRow.{ServerRow}
-use Rattle.save_path.specs.Rows.{rows_below}
 use Rattle.suspend_image.specs.SavedRows.{message_row}
+use Rattle.xk_base.specs.declared.messages.Message.{Message}
+use Rattle.save_path.specs.Fitting.{IsMessageFit}
 use Rattle.save_path.specs.Written.{Appends, Fits}
-use Rattle.save_path.proofs.EntryLemmas.{rows_of_all}
-use Rattle.save_path.proofs.SheetLemmas.{HasWritten, appends_both, fits_behind, fits_less, has_room}
+use Rattle.save_path.proofs.SheetLemmas.{appends_both, fits_behind, fits_less, has_room}
+use Rattle.save_path.proofs.SizeLemmas.{length-message}
 
-abbrev pub held_row : List Held → ℕ → Option MessageRow
-held_row xs j = option_map (λ (h : Held). message_row (message_of h)) (slice_get xs j)
+-- The messages before those that are left were appended, and each of them fits.
+pub record HasAppended (all left : List Message) (start sheet : SheetBytes) : Type 0 where
+  pub done : List Message
+  pub split : done ++ left ≡ all
+  pub text : Appends start sheet (flat_map message_bytes (map message_row done)) (44 * length done)
+  pub fit : All IsMessageFit done
 
-map_twice : (xs : List Held) → map (λ (h : Held). message_row (message_of h)) xs ≡ map message_row (map message_of xs)
-map_twice [] = refl
-map_twice (h ∷ xs) = ap (λ (rows : List MessageRow). message_row (message_of h) ∷ rows) (map_twice xs)
+pub none_so_far : (all left : List Message) (start : SheetBytes) → left ≡ all → HasAppended all left start start
+none_so_far all left start e = record {
+  done = [];
+  split = e;
+  text = record { is = none_appended start; few = omega arith };
+  fit = All-nil IsMessageFit;
+}
 
-pub messages_appended : (xs : List Held) (k n : ℕ) (old sheet : SheetBytes) → HasWritten message_bytes 44 (held_row xs) k old sheet k → k ≡ n → n ≡ length xs
-    → Appends old sheet (flat_map message_bytes (map message_row (map message_of xs))) (44 * n)
-messages_appended xs k n old sheet written end all =
-    let rows : rows_below k (held_row xs) ≡ map message_row (map message_of xs) =
-    ap (λ j. rows_below j (held_row xs)) (end ∙ all) ∙ rows_of_all (λ (h : Held). message_row (message_of h)) xs ∙ map_twice xs in
-    let same : flat_map message_bytes (rows_below k (held_row xs)) ≡ flat_map message_bytes (map message_row (map message_of xs)) =
-    ap (λ (rs : List MessageRow). flat_map message_bytes rs) rows in
-    let size = ap (λ (bs : List ℕ). length bs) same in
-    let few = written.few in
+pub one_more : (all left rest : List Message) (m : Message) (start sheet new : SheetBytes) → HasAppended all left start sheet → left ≡ m ∷ rest
+    → new ≡ appended (message_bytes (message_row m)) sheet → IsMessageFit m → HasAppended all rest start new
+one_more all left rest m start sheet new h e is fit =
+    let done = h.done in
+    let so_far : List ℕ = flat_map message_bytes (map message_row done) in
+    let one : List ℕ = message_bytes (message_row m) in
+    let this : Appends sheet new one 44 = record { is = is; few = length-message (message_row m) fit.four } in
+    let both : Appends start new (so_far ++ one) (44 * length done + 44) = appends_both start sheet new so_far one (44 * length done) 44 h.text this in
+    let text : flat_map message_bytes (map message_row (done ++ m ∷ [])) ≡ so_far ++ one =
+    ap (λ (rows : List MessageRow). flat_map message_bytes rows) (map-append message_row done (m ∷ []))
+    ∙ flat_map-append message_bytes (map message_row done) (message_row m ∷ []) ∙ ap (λ (bs : List ℕ). so_far ++ bs) (append-nil one) in
+    let size = ap (λ (bs : List ℕ). length bs) text in
+    let many = length-append done (m ∷ []) in
+    let few = both.few in
     record {
-      is = written.is ∙ ap (λ (bs : List ℕ). appended bs old) same;
-      few = omega arith;
+      done = done ++ m ∷ [];
+      split = append_assoc done (m ∷ []) rest ∙ ap (λ (ms : List Message). done ++ ms) (sym e) ∙ h.split;
+      text = record { is = both.is ∙ ap (λ (bs : List ℕ). appended bs start) (sym text); few = omega arith };
+      fit = All-push IsMessageFit done m h.fit fit;
     }
+
+-- there is room for the next
+pub room_for_next : (all left rest : List Message) (m : Message) (row : MessageRow) (start sheet : SheetBytes) → HasAppended all left start sheet
+    → left ≡ m ∷ rest → length row.words ≡ 4 → Fits start (44 * length all) → HasRoom sheet (message_bytes row)
+room_for_next all left rest m row start sheet h e four fits =
+    let done = h.done in
+    let many = sym (length-append done left) ∙ ap (λ (ms : List Message). length ms) h.split in
+    let some = ap (λ (ms : List Message). length ms) e in
+    let room : Fits sheet 44 = fits_behind start sheet (flat_map message_bytes (map message_row done)) (44 * length done) 44 h.text
+    (fits_less start (44 * length all) (44 * length done + 44) fits (omega arith)) in
+    has_room sheet 44 (message_bytes row) room (length-message row four)
+
+-- where none is left
+module _ (all left : List Message) (start sheet : SheetBytes) (h : HasAppended all left start sheet) (none : left ≡ []) where
+  all_done : h.done ≡ all
+  all_done = sym (append-nil h.done) ∙ ap (λ (ms : List Message). h.done ++ ms) (sym none) ∙ h.split
+
+  pub all_appended : Appends start sheet (flat_map message_bytes (map message_row all)) (44 * length all)
+  all_appended = subst (λ (ms : List Message). Appends start sheet (flat_map message_bytes (map message_row ms)) (44 * length ms)) all_done h.text
+
+  pub all_fit : All IsMessageFit all
+  all_fit = subst (λ (ms : List Message). All IsMessageFit ms) all_done h.fit
+
+-- ---- the messages of a seat, as they are told
+
+-- they are as many as are told
+pub told_many : (xs : List Held) (told : List Message) (many : ℕ) → told ≡ map message_of xs → many ≡ length told
+    → many ≡ length (map message_row (map message_of xs))
+told_many xs told many is count = count ∙ ap (λ (ms : List Message). length ms) is ∙ sym (length-map (map message_of xs) message_row)
+
+pub told_length : (xs : List Held) (told : List Message) → told ≡ map message_of xs → length told ≡ length xs
+told_length xs told is = ap (λ (ms : List Message). length ms) is ∙ length-map xs message_of
+
+pub told_appended : (xs : List Held) (told : List Message) (many : ℕ) (old new : SheetBytes) → told ≡ map message_of xs → many ≡ length told
+    → Appends old new (flat_map message_bytes (map message_row told)) (44 * length told)
+    → Appends old new (flat_map message_bytes (map message_row (map message_of xs))) (44 * many)
+told_appended xs told many old new is count appends =
+    subst (λ (ms : List Message). Appends old new (flat_map message_bytes (map message_row ms)) (44 * many)) is
+    (subst (λ n. Appends old new (flat_map message_bytes (map message_row told)) (44 * n)) (sym count) appends)
 
 -- ---- a server
 
@@ -69,9 +126,6 @@ server_appended row old one two three new sid serial pid queued held is_sid four
       is = whole.is ∙ ap (λ (bs : List ℕ). appended bs old) text;
       few = omega arith;
     }
-
-pub held_many : (xs : List Held) → length (map message_row (map message_of xs)) ≡ length xs
-held_many xs = length-map (map message_of xs) message_row ∙ length-map xs message_of
 
 -- room for the pieces of a server
 pub record SeatRoom (old : SheetBytes) (words : List ℕ) : Type 0 where

@@ -4,13 +4,10 @@ use Rattle.std.specs.Prelude.{List, is_some, length, if◌then◌else◌}
 use Rattle.std.specs.List.{slice_get}
 use Rattle.std.proofs.lemmas.Bool.{false≢true, le-ltb}
 use Rattle.std.proofs.lemmas.Option.{slice_get_cases, slice_get_within}
-use Rattle.msg_queue.specs.Seats.{message_of}
-use Rattle.msg_queue.specs.declared.held.Held.{Held}
 use Rattle.process_table.specs.ProcessMap.{connections_of, heap_of, is_alive}
 use Rattle.process_table.specs.State.{ProcessState}
 use Rattle.xk_base.specs.Tables.Connections.{connected_to}
 use Rattle.xk_base.specs.declared.ids.Serial.{Serial}
-use Rattle.xk_base.specs.declared.messages.Message.{Message}
 use denote.Bor.{Bor}
 use mir.Val.{bool_byte}
 use Rattle.std.specs.Option.{option_copied, option_map, option_map_or}
@@ -29,7 +26,7 @@ use Rattle.thread_table.specs.declared.thread.Thread.{Thread as TableThread}
 use Rattle.xk_base.specs.Tables.Circle.{id_at}
 use Rattle.xk_base.specs.declared.ids.ThreadId.{ThreadId}
 use Rattle.save_path.specs.Rows.{claim_at, server_at, thread_at}
-use Rattle.suspend_image.specs.SavedRows.{claim_row, message_row, server_row, thread_row}
+use Rattle.suspend_image.specs.SavedRows.{claim_row, server_row, thread_row}
 
 -- ---- claims
 
@@ -73,10 +70,6 @@ copied o x e = ap option_copied e
 pub copied_none : {A : Type 0} (o : Option (Bor A)) → o ≡ None → option_copied o ≡ None
 copied_none o e = ap option_copied e
 
-pub is_some-copied : {A : Type 0} (o : Option (Bor A)) → is_some (option_copied o) ≡ is_some o
-is_some-copied None = refl
-is_some-copied (Some x) = refl
-
 pub is_some-map : {A B : Type 0} (f : A → B) (o : Option A) → is_some (option_map f o) ≡ is_some o
 is_some-map f None = refl
 is_some-map f (Some x) = refl
@@ -97,12 +90,6 @@ count_more {A = A} xs k e = go (slice_get xs k) refl e
 
 pub count_ends : {A : Type 0} (xs : List A) (k : ℕ) → is_some (slice_get xs k) ≡ false → k ≤ length xs → k ≡ length xs
 count_ends xs k e low = elim (slice_get_cases xs k).1 [
-  | inl h ↦ absurd (false≢true (sym e ∙ ap is_some h.2))
-  | inr h ↦ let past = h.0 in omega arith
-]
-
-pub count_at_most : {A : Type 0} (xs : List A) (k : ℕ) → is_some (slice_get xs k) ≡ false → length xs ≤ k
-count_at_most xs k e = elim (slice_get_cases xs k).1 [
   | inl h ↦ absurd (false≢true (sym e ∙ ap is_some h.2))
   | inr h ↦ let past = h.0 in omega arith
 ]
@@ -130,13 +117,3 @@ connected_at servers k =
 -- the server that the connection of a place leads to
 pub connection_at : (o : Option ProcessState) (k : ℕ) → connected_to (connections_of o) (k + 2) ≡ slice_get (process_of o).connections k
 connection_at o k = connected_at (connections_of o) k ∙ ap (λ (servers : List Serial). slice_get servers k) (connections_shown o)
-
--- ---- messages
-
-pub message_there : (xs : List Held) (k : ℕ) (m : Message) → option_map message_of (slice_get xs k) ≡ Some m
-    → option_map (λ (h : Held). message_row (message_of h)) (slice_get xs k) ≡ Some (message_row m)
-message_there xs k m e = go (slice_get xs k) e
-  where
-    go : (o : Option Held) → option_map message_of o ≡ Some m → option_map (λ (h : Held). message_row (message_of h)) o ≡ Some (message_row m)
-    go None q = absurd (false≢true (ap is_some q))
-    go (Some h) q = ap (option_map message_row) q

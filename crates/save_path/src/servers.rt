@@ -2,12 +2,12 @@
 
 ghost use Rattle.std.specs.Prelude.{◌≡◌, ◌<◌, ◌≤◌, ◌+◌, ◌*◌, ℕ, All, length, is_some, map};
 ghost use Rattle.std.specs.List.{flat_map};
-ghost use Rattle.msg_queue.specs.Seats.{message_of, seat_of};
+ghost use Rattle.msg_queue.specs.Seats.{seat_of};
 ghost use Rattle.xk_parts.specs.Shown.{server_with, servers_shown};
 ghost use Rattle.server_table.specs.ServersOf.{servers_of};
 ghost use Rattle.suspend_image.specs.Spelling.{message_bytes, rows_bytes, server_bytes};
 ghost use Rattle.xk_base.specs.Tables.Counting.{count_below};
-ghost use Rattle.xk_base.specs.declared.limits.TheConstants.{MESSAGE_LIMIT, SERVER_LIMIT};
+ghost use Rattle.xk_base.specs.declared.limits.TheConstants.{SERVER_LIMIT};
 ghost use Rattle.save_path.specs.Fitting.{EachBelow, IsMessageFit, IsServerFit};
 ghost use Rattle.save_path.specs.Rows.{rows_below, server_at};
 ghost use Rattle.suspend_image.specs.Reading.{greatest};
@@ -15,10 +15,10 @@ ghost use Rattle.suspend_image.specs.SavedRows.{message_row, server_row};
 ghost use Rattle.save_path.specs.Servers.{IsNextServer, lower_seated, table_server};
 ghost use Rattle.save_path.specs.Written.{Appends, Fits};
 
-use msg_queue::Queues;
+use msg_queue::{Messages, Queues};
 use server_table::{ServerSeat, Servers};
 use suspend_image::{MessageRow, Sheet, write_message};
-use xk_base::limits::{MESSAGE_LIMIT, SERVER_LIMIT};
+use xk_base::limits::SERVER_LIMIT;
 use xk_base::{Message, Sid};
 
 /// How many servers are alive at most.
@@ -63,77 +63,14 @@ fn message_row(message: Message) -> MessageRow
     }
 }
 
-// How many messages are queued at the seat: there is one at each place below, which is found by halving.
-fn queued_count(queues: &Queues, seat: u8) -> u32
-    requires { seat < SERVER_LIMIT }
-    ensures { result ≡ length (seat_of queues.now seat).queued }
+// Appends the messages that are told, in their order.
+fn write_messages(sheet: &mut Sheet, messages: Messages<'_>)
+    requires { Fits sheet.old (44 * length messages) }
+    ensures rows { Appends sheet.old sheet.new (flat_map message_bytes (map message_row messages.entry)) (44 * length messages.entry) }
+    ensures fit { All IsMessageFit messages.entry }
 {
-    // For the prover: there are few.
-    let _few = queues.is_full(seat);
-    let mut low = 0;
-    let mut high = MESSAGE_LIMIT;
-    'halves: while low < high {
-        let middle = (low + high) / 2;
-        if queues.queued_at(seat, middle).is_some() {
-            low = middle + 1;
-        } else {
-            high = middle;
-        }
-    }
-    low
-}
-
-// How many it holds, found likewise.
-fn held_count(queues: &Queues, seat: u8) -> u32
-    requires { seat < SERVER_LIMIT }
-    ensures { result ≡ length (seat_of queues.now seat).held }
-{
-    // For the prover: there are few.
-    let _few = queues.is_full(seat);
-    let mut low = 0;
-    let mut high = MESSAGE_LIMIT;
-    'halves: while low < high {
-        let middle = (low + high) / 2;
-        if queues.held_at(seat, middle).is_some() {
-            low = middle + 1;
-        } else {
-            high = middle;
-        }
-    }
-    low
-}
-
-// Appends so many queued messages of the seat, the oldest first.
-fn write_queued(sheet: &mut Sheet, queues: &Queues, seat: u8, many: u32)
-    requires seat { seat < SERVER_LIMIT }
-    requires many { many ≡ length (seat_of queues.now seat).queued }
-    requires room { Fits sheet.old (44 * many) }
-    ensures rows { Appends sheet.old sheet.new (flat_map message_bytes (map message_row (map message_of (seat_of queues.now seat).queued)))
-        (44 * many) }
-    ensures fit { All IsMessageFit (map message_of (seat_of queues.now seat).queued) }
-{
-    for k in 0..many {
-        match queues.queued_at(seat, k) {
-            Some(message) => write_message(sheet, &message_row(*message)),
-            None => unreachable!(),
-        }
-    }
-}
-
-// Appends so many held messages of the seat, in the order in which they stand.
-fn write_held(sheet: &mut Sheet, queues: &Queues, seat: u8, many: u32)
-    requires seat { seat < SERVER_LIMIT }
-    requires many { many ≡ length (seat_of queues.now seat).held }
-    requires room { Fits sheet.old (44 * many) }
-    ensures rows { Appends sheet.old sheet.new (flat_map message_bytes (map message_row (map message_of (seat_of queues.now seat).held)))
-        (44 * many) }
-    ensures fit { All IsMessageFit (map message_of (seat_of queues.now seat).held) }
-{
-    for k in 0..many {
-        match queues.held_at(seat, k) {
-            Some(message) => write_message(sheet, &message_row(*message)),
-            None => unreachable!(),
-        }
+    for message in messages {
+        write_message(sheet, &message_row(*message));
     }
 }
 
@@ -155,14 +92,19 @@ fn write_server(sheet: &mut Sheet, queues: &Queues, seated: Seated)
     ensures fit { IsServerFit (server_with (seat_of queues.now seated.seat) (table_server seated)) }
 {
     let Seated { seat, server } = seated;
-    let queued = queued_count(queues, seat);
-    let held = held_count(queues, seat);
+    let queued = queues.queued_messages(seat);
+    let held = queues.held_messages(seat);
     // For the prover: there are few.
     let _few = queues.is_full(seat);
     sheet.push_words(&sid_words(server.sid));
-    sheet.push_words(&[server.serial.0, u32::from(server.pid.0), queued, held]);
-    write_queued(sheet, queues, seat, queued);
-    write_held(sheet, queues, seat, held);
+    sheet.push_words(&[
+        server.serial.0,
+        u32::from(server.pid.0),
+        queued.left(),
+        held.left(),
+    ]);
+    write_messages(sheet, queued);
+    write_messages(sheet, held);
 }
 
 // The one with the lower serial of two servers, of which the second counts from a serial on alone.

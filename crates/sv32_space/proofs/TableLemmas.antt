@@ -2,7 +2,9 @@
 use Rattle.std.proofs.Common.{◌≡◌, ◌==◌, ◌+◌, ◌*◌, ◌/◌, ◌%◌, ◌^◌, ◌-◌, ◌<◌, ◌≤◌, ℕ, Bool, true, false, ◌||◌, List, Option, Some, None, IsTrue, IsSome, refl, sym, ap, subst, ◌∙◌, inl, inr, arith}
 use Rattle.std.proofs.lemmas.Bool.{both_ways, cases_eq, cases_lt, ne_eqb}
 use Rattle.std.proofs.lemmas.Bool.Decides.{nat_tests}
+use Rattle.std.proofs.lemmas.Nat.{le_or_l, le_or_r}
 use Rattle.std.proofs.lemmas.Option.{none-some, same_Some}
+use Rattle.std.specs.Int.Bits.{bit_or}
 use Rattle.xk_base.specs.Tables.Circle.{is_pid}
 use Rattle.xk_base.specs.Numbers.Windows.{first_page, window_at}
 use Rattle.xk_base.specs.declared.ids.Pid.{Pid}
@@ -86,6 +88,29 @@ console_words a word fits placed = elim (cases_eq word 0x3C0000D3) [
     no_other (Some Free) e f = refl
     no_other (Some (At side seat)) e f = refl
     no_other (Some (OnConsole w)) e f = absurd (both_ways ((word == 0x3C0000D3) || (word == 0x3C0000D7)) f (console_is_one a w word (console_only a w word fits e)))
+
+-- and is no word below them
+pub low_word : (a : Area) (word : ℕ) → IsPlaced a → word < 0x3C0000D3 → is_console_entry (entry_spelled a word) ≡ false
+low_word a word placed low = sym (console_words a word (omega (arith, low)) placed)
+    ∙ both (ne_eqb word 0x3C0000D3 (λ e. omega (arith, e, low))) (ne_eqb word 0x3C0000D7 (λ e. omega (arith, e, low)))
+  where
+    both : (word == 0x3C0000D3) ≡ false → (word == 0x3C0000D7) ≡ false → ((word == 0x3C0000D3) || (word == 0x3C0000D7)) ≡ false
+    both e f = rw (e, f) refl
+
+-- ---- the bits of a table
+
+-- no word of the first n is above these bits
+abbrev pub AreBelow : List ℕ → ℕ → ℕ → Type 0
+AreBelow table n bits = (k : ℕ) → k < n → word_in table (4 * k) ≤ bits
+
+-- .. nor one of one more
+pub below_next : (table : List ℕ) (n bits word : ℕ) → AreBelow table n bits → word ≡ word_in table (4 * n) → AreBelow table (n + 1) (bit_or bits word)
+below_next table n bits word below is k low = elim (cases_lt k n) [
+  | inl old ↦ omega (arith, below k old, le_or_l bits word)
+  | inr new ↦
+      let same : n ≡ k = omega (arith, low, new) in
+      subst (λ j. word_in table (4 * j) ≤ bit_or bits word) same (omega (arith, is, le_or_r bits word))
+]
 
 -- ---- a table is searched
 

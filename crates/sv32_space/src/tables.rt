@@ -2,7 +2,7 @@
 //! entry is looked up by itself.
 
 ghost use Rattle.phys_pages.specs.Ram.{Area, IsPlaced, area, word_in};
-ghost use Rattle.std.specs.Prelude.{IsSome, IsTrue, length, true, false, ℕ, ◌*◌, ◌<◌, ◌≡◌};
+ghost use Rattle.std.specs.Prelude.{IsSome, IsTrue, length, true, false, ℕ, ◌*◌, ◌<◌, ◌≤◌, ◌≡◌};
 ghost use Rattle.sv32_space.specs.Spaces.{IsMade};
 ghost use Rattle.sv32_space.specs.SpelledEntries.{entries, entry_spelled};
 ghost use Rattle.sv32_space.specs.Tables.{IsTableOf, has_console, is_console_entry};
@@ -47,8 +47,21 @@ fn is_console(word: u32) -> bool
     word == CONSOLE_READ || word == CONSOLE_WRITE
 }
 
-// Whether a word of the table spells the console's entry. It doesn't stop at the first, so that the
-// machine compares several at once.
+// The bits that are set in any word of the table. No word is above it.
+fn all_bits(table: &[u8]) -> u32
+    requires len { length table.now ≡ 4096 }
+    ensures { (k : ℕ) → k < 1024 → word_in table.now (4 * k) ≤ result }
+{
+    let mut bits = 0;
+    for i in 0..1024 {
+        bits |= entry_word(table, i);
+    }
+    bits
+}
+
+// Whether a word of the table spells the console's entry. Pages stand below the console, so that the
+// words of nearly every table lack a bit of its entry: then none is compared. It doesn't stop at the
+// first word, so that the machine takes several at once.
 fn any_console(table: &[u8]) -> bool
     requires len { length table.now ≡ 4096 }
     ensures found { (a : Area) → IsPlaced a → result ≡ true
@@ -56,6 +69,10 @@ fn any_console(table: &[u8]) -> bool
     ensures none { (a : Area) (k : ℕ) → IsPlaced a → result ≡ false → k < 1024
         → is_console_entry (entry_spelled a (word_in table.now (4 * k))) ≡ false }
 {
+    let below = all_bits(table) < CONSOLE_READ;
+    if below {
+        return false;
+    }
     let mut found = false;
     for i in 0..1024 {
         found |= is_console(entry_word(table, i));

@@ -4,7 +4,7 @@ use Rattle.std.proofs.lemmas.Bool.{cases_Bool, both_ways, true_from_ne_false, co
 use Rattle.std.proofs.lemmas.Bool.Decides.{nat_tests}
 use Rattle.std.proofs.lemmas.List.{get_or-set_same, get_or-set_other}
 use Rattle.xk_base.specs.declared.ids.ThreadId.{ThreadId}
-use Rattle.xk_base.specs.Tables.Circle.{is_thread_id, same_thread, thread_ids, id_at, place_of}
+use Rattle.xk_base.specs.Tables.Circle.{IsPid, IsTid, is_thread_id, same_thread, thread_ids, id_at, place_of}
 use Rattle.xk_base.specs.Tables.Counting.{put_at}
 use Rattle.xk_base.specs.Tables.RowMap.{row_map}
 use Rattle.xk_base.proofs.CircleLemmas.{same_ids, is_thread_id-id_at, place_of-id_at, place_of-bound, id_at-place_of}
@@ -28,6 +28,10 @@ thread_map_at n xs k l = thread_map_read n xs (id_at k) (is_thread_id-id_at n k 
 pub thread_map_valid : (n : ℕ) (xs : List (Option Thread)) (id : ThreadId) → IsSome (thread_map n xs id) → is_thread_id n id ≡ true
 thread_map_valid n xs id h =
     true_from_ne_false (is_thread_id n id) (λ f. both_ways (is_some (thread_map n xs id)) (ap is_some (thread_map_outside n xs id f)) h)
+
+-- .. so its pid and its tid are
+pub id_bounds : (n : ℕ) (id : ThreadId) → is_thread_id n id ≡ true → (IsPid n id.pid.0) × (IsTid id.tid.0)
+id_bounds n id h = ((grind (arith, nat_tests), grind (arith, nat_tests)), (grind (arith, nat_tests), grind (arith, nat_tests)))
 
 -- ids of these processes that differ have different places
 places_differ : (n : ℕ) (a b : ThreadId) → is_thread_id n a ≡ true → is_thread_id n b ≡ true → (a ≡ b → ⊥) → place_of a ≡ place_of b → ⊥

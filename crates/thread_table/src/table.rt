@@ -1,6 +1,6 @@
 //! The table of threads.
 
-ghost use Rattle.std.specs.Prelude.{◌≡◌, ◌<◌, ◌≤◌, ◌+◌, ◌-◌, ◌%◌, ℕ, true, false, IfOk, IfSome, IfNone, IsSome, Some, None, is_none};
+ghost use Rattle.std.specs.Prelude.{◌≡◌, ◌<◌, ◌≤◌, ◌+◌, ◌-◌, ◌%◌, ℕ, true, false, IfOk, IfSome, IfNone, IsSome, IsTrue, Some, None, is_none};
 ghost use Rattle.std.specs.Prelude.{replicate, vec_len};
 ghost use Rattle.std.specs.Option.{option_copied};
 ghost use Rattle.xk_base.specs.Tables.Circle.{IsPid, IsTid, is_thread_id, same_thread, thread_ids, place_of, id_at, id_by_tid};
@@ -9,7 +9,7 @@ ghost use Rattle.xk_base.specs.declared.ids.ThreadId.{ThreadId as Id};
 ghost use Rattle.xk_base.specs.declared.limits.TheConstants.{PROCESS_LIMIT};
 ghost use Rattle.thread_table.specs.ThreadMap.{no_threads, thread_map, without_process, free_tid, thread_above, tids_above, live_threads};
 ghost use Rattle.thread_table.specs.ThreadMap.{receiver, next_ready, id_in_row, is_ready_in, is_receiving};
-ghost use Rattle.thread_table.specs.TidSets.{no_tids, AreMarked};
+ghost use Rattle.thread_table.specs.TidSets.{no_tids, are_marked, lent_sets, settled_sets, sets_by_state};
 
 use crate::thread::{Thread, thread_in};
 use crate::tids::Tids;
@@ -21,16 +21,18 @@ use xk_base::{NoMemory, Pid, Serial, ThreadId, Tid};
 const TIDS: usize = TID_LIMIT as usize;
 
 /// The threads of a fixed number of processes, with a place for each (pid, tid) that they may have, in
-/// ascending order. Searches pass over the tids that are in no process's set.
+/// ascending order. For each process a set has the tids of its Ready threads. A thread that is lent may become
+/// Ready, so its tid is in the set too, until another thread is lent: then the set has it where it is Ready.
 #[derive(Debug, Drop)]
 pub struct Threads {
     procs: u32,
     by_place: Vec<Option<Thread>>,
-    there: Vec<Tids>,
+    ready: Vec<Tids>,
+    lent: Option<ThreadId>,
     ghost few: { procs ≤ PROCESS_LIMIT },
     ghost whole: { vec_len by_place ≡ thread_ids procs },
-    ghost sets: { vec_len there ≡ procs },
-    ghost marked: { AreMarked there.items (thread_map procs by_place.items) },
+    ghost sets: { vec_len ready ≡ procs },
+    ghost marked: { IsTrue (are_marked ready.items by_place.items) },
 }
 
 /// The place of the id: how many ids of a pid of 2 or more stand before it in ascending order of (pid, tid).
@@ -114,11 +116,12 @@ impl Threads {
         ensures empty { IfOk result (λ t. threads_of t ≡ no_threads) }
     {
         let by_place = empty_places(alloc, procs as usize * TIDS)?;
-        let there = empty_sets(alloc, procs as usize)?;
+        let ready = empty_sets(alloc, procs as usize)?;
         Ok(Threads {
             procs,
             by_place,
-            there,
+            ready,
+            lent: None,
         })
     }
 
@@ -168,7 +171,48 @@ impl Threads {
             (Some thread) }
         ensures count { (thread : Thread) → process_count (with_thread self.old id thread) ≡ process_count self.old }
     {
+        self.mark_lent(id);
         thread_in(&mut self.by_place[place_of(id)])
+    }
+
+    /// A thread is about to be lent: its tid comes into the set of its process, since it may become Ready.
+    fn mark_lent(&mut self, id: ThreadId)
+        requires { IsSome (threads_of self.old id) }
+        ensures sets { self.new.ready ≡ lent_sets self.old.ready (threads_of self.old) self.old.lent id }
+        ensures lent { self.new.lent ≡ Some id }
+        ensures places { self.new.by_place ≡ self.old.by_place }
+        ensures count { self.new.procs ≡ self.old.procs }
+    {
+        self.settle_last(id);
+        let row = row_of(id.pid);
+        self.ready[row] = self.ready[row].with(id.tid);
+        self.lent = Some(id);
+    }
+
+    /// The thread that was lent last is settled, where another is lent next.
+    fn settle_last(&mut self, next: ThreadId)
+        ensures sets { self.new.ready ≡ settled_sets self.old.ready (threads_of self.old) self.old.lent next }
+        ensures places { self.new.by_place ≡ self.old.by_place }
+        ensures count { self.new.procs ≡ self.old.procs }
+    {
+        if let Some(last) = self.lent
+            && last != next
+        {
+            self.settle(last);
+        }
+    }
+
+    /// The set of the thread's process has its tid only where it is Ready. Any id may be given.
+    fn settle(&mut self, id: ThreadId)
+        ensures sets { self.new.ready ≡ sets_by_state self.old.ready id (threads_of self.old id) }
+        ensures places { self.new.by_place ≡ self.old.by_place }
+        ensures count { self.new.procs ≡ self.old.procs }
+    {
+        if let Some(thread) = self.get(id) {
+            let ready = thread.state.is_ready();
+            let row = row_of(id.pid);
+            self.ready[row] = self.ready[row].with_if(id.tid, ready);
+        }
     }
 
     /// Puts a new thread there.
@@ -180,7 +224,7 @@ impl Threads {
         ensures count { process_count self.new ≡ process_count self.old }
     {
         let row = row_of(id.pid);
-        self.there[row] = self.there[row].with(id.tid);
+        self.ready[row] = self.ready[row].with_if(id.tid, thread.state.is_ready());
         self.by_place[place_of(id)] = Some(thread);
     }
 
@@ -190,6 +234,8 @@ impl Threads {
         ensures after { threads_of self.new ≡ put_at same_thread (threads_of self.old) id (Some changed) }
         ensures count { process_count self.new ≡ process_count self.old }
     {
+        let row = row_of(id.pid);
+        self.ready[row] = self.ready[row].with_if(id.tid, changed.state.is_ready());
         self.by_place[place_of(id)] = Some(changed);
     }
 
@@ -201,7 +247,7 @@ impl Threads {
     {
         let row = row_of(id.pid);
         self.by_place[place_of(id)] = None;
-        self.there[row] = self.there[row].without(id.tid);
+        self.ready[row] = self.ready[row].without(id.tid);
     }
 
     /// Ends all threads of the process.
@@ -212,7 +258,7 @@ impl Threads {
     {
         let first = (pid.0 as usize - 2) * TIDS;
         self.by_place[first..first + TIDS].fill_with(|| None);
-        self.there[row_of(pid)] = Tids::none();
+        self.ready[row_of(pid)] = Tids::none();
     }
 
     /// Whether no thread of the process has the tid `k + 2`.
@@ -327,16 +373,15 @@ impl Threads {
     /// Of the Ready threads with that tid or a greater one, of the process in the row, the least tid.
     fn ready_from(&self, row: usize, from: u8) -> Option<u8>
         requires row { row < process_count self.now }
-        requires from { 1 ≤ from }
+        requires low { 1 ≤ from }
+        requires high { from ≤ TID_LIMIT + 1 }
         ensures none { IfNone result ((tid : ℕ) → from ≤ tid → is_ready_in (threads_of self.now) row tid ≡ false) }
         ensures found { IfSome result (λ tid. (from ≤ tid) × (tid ≤ TID_LIMIT) × (is_ready_in (threads_of self.now) row tid ≡ true)) }
         ensures first { IfSome result (λ least. (tid : ℕ) → from ≤ tid → tid < least → is_ready_in (threads_of self.now) row tid ≡ false) }
     {
-        let tids = self.there[row];
-        for tid in from..TID_LIMIT + 1 {
-            if tids.all_below(Tid(tid)) {
-                return None;
-            }
+        let tids = self.ready[row];
+        let first = tids.least_from(from)?;
+        for tid in first..TID_LIMIT + 1 {
             if tids.has(Tid(tid)) && self.is_ready_in(row, tid) {
                 return Some(tid);
             }

@@ -1,8 +1,8 @@
-//! The tids that a process has threads of.
+//! The tids of some of the threads of a process.
 
-ghost use Rattle.std.specs.Prelude.{◌≡◌, ◌≤◌, ◌<◌, ℕ, Bool, true, false, if◌then◌else◌, ◌==◌};
+ghost use Rattle.std.specs.Prelude.{◌≡◌, ◌≤◌, ◌<◌, ◌+◌, ℕ, true, false, IfSome, IfNone};
 ghost use Rattle.xk_base.specs.declared.limits.TheConstants.{TID_LIMIT};
-ghost use Rattle.thread_table.specs.TidSets.{no_tids, has_tid, all_below};
+ghost use Rattle.thread_table.specs.TidSets.{no_tids, has_tid, with_tid, without_tid, with_if};
 
 use xk_base::Tid;
 
@@ -26,18 +26,26 @@ impl Tids {
         (self.0 >> tid.0) & 1 == 1
     }
 
-    /// Whether all tids of the set are below this one.
-    pub(crate) fn all_below(self, tid: Tid) -> bool
-        requires { tid.0 ≤ TID_LIMIT }
-        ensures { result ≡ all_below self tid.0 }
+    /// The least tid of the set from this one on.
+    pub(crate) fn least_from(self, from: u8) -> Option<u8>
+        requires { from ≤ TID_LIMIT + 1 }
+        ensures none { IfNone result ((tid : ℕ) → from ≤ tid → has_tid self tid ≡ false) }
+        ensures found { IfSome result (λ least. (from ≤ least) × (least ≤ TID_LIMIT) × (has_tid self least ≡ true)) }
+        ensures first { IfSome result (λ least. (tid : ℕ) → from ≤ tid → tid < least → has_tid self tid ≡ false) }
     {
-        self.0 >> tid.0 == 0
+        // Of 64 bits, since the shift may be by 32.
+        let left = self.0 as u64 >> from;
+        if left == 0 {
+            None
+        } else {
+            Some(from + left.trailing_zeros() as u8)
+        }
     }
 
     /// The set with the tid besides.
     pub(crate) fn with(self, tid: Tid) -> Tids
         requires { tid.0 ≤ TID_LIMIT }
-        ensures { (other : ℕ) → has_tid result other ≡ (if other == tid.0 then true else has_tid self other) }
+        ensures { result ≡ with_tid self tid.0 }
     {
         Tids(self.0 | (1 << tid.0))
     }
@@ -45,8 +53,20 @@ impl Tids {
     /// The set without the tid.
     pub(crate) fn without(self, tid: Tid) -> Tids
         requires { tid.0 ≤ TID_LIMIT }
-        ensures { (other : ℕ) → other ≤ TID_LIMIT → has_tid result other ≡ (if other == tid.0 then false else has_tid self other) }
+        ensures { result ≡ without_tid self tid.0 }
     {
         Tids(self.0 & !(1 << tid.0))
+    }
+
+    /// The set with the tid exactly where that is so, and with its other tids.
+    pub(crate) fn with_if(self, tid: Tid, has: bool) -> Tids
+        requires { tid.0 ≤ TID_LIMIT }
+        ensures { result ≡ with_if self tid.0 has }
+    {
+        if has {
+            self.with(tid)
+        } else {
+            self.without(tid)
+        }
     }
 }

@@ -1,9 +1,8 @@
--- The bytes of a word as `hex` writes them are the word's digits.
+-- A byte as `hex` writes it is its two digits.
 use Rattle.std.proofs.Common.{◌≡◌, ℕ, ◌+◌, ◌*◌, ◌/◌, ◌%◌, ◌^◌, ◌<◌, List, [], ◌∷◌, refl, slice_index, arith}
 use Rattle.std.specs.Char.{digit_char}
-use Rattle.std.specs.Int.{to_be_bytes, w32}
 use Rattle.hex.specs.Hex.{encode_lower, encode_with, lower_digits}
-use Rattle.trace_text.specs.Words.{byte_text, word_text}
+use Rattle.trace_text.specs.Words.{byte_text}
 use borrow.Author.Count.{below_none, below_more}
 
 -- the table of digits and the digit of a number agree
@@ -32,10 +31,3 @@ encoded_nil = refl
 pub encoded_byte : (b : ℕ) → b < 2 ^ 8 → encode_lower (b ∷ []) ≡ byte_text b
 encoded_byte b fits =
     encoded_cons b (b / 16 % 16) (b / 1 % 16) [] [] (omega arith) (omega arith) (omega arith) encoded_nil
-
-pub encoded_word : (w : ℕ) → w < 2 ^ 32 → encode_lower (to_be_bytes w32 w) ≡ word_text w
-encoded_word w fits =
-    encoded_cons (w / 16777216 % 256) (w / 268435456 % 16) (w / 16777216 % 16) _ _ (omega arith) (omega arith) (omega arith)
-    (encoded_cons (w / 65536 % 256) (w / 1048576 % 16) (w / 65536 % 16) _ _ (omega arith) (omega arith) (omega arith)
-    (encoded_cons (w / 256 % 256) (w / 4096 % 16) (w / 256 % 16) _ _ (omega arith) (omega arith) (omega arith)
-    (encoded_cons (w % 256) (w / 16 % 16) (w / 1 % 16) [] [] (omega arith) (omega arith) (omega arith) encoded_nil)))

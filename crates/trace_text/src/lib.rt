@@ -3,7 +3,9 @@
 //! Numbers are decimal and words are eight lower-case hexadecimal digits. No line takes memory.
 #![tactic(auto)]
 
+mod digits;
 mod lines;
 mod pieces;
 
+pub use digits::word_digits;
 pub use lines::{EndWord, end_line, line};

@@ -5,6 +5,7 @@ ghost use Rattle.arrayvec.specs.ArrayVec.{array_vec_len};
 ghost use Rattle.trace_text.specs.Lines.{thread_text};
 ghost use Rattle.trace_text.specs.Words.{byte_text, word_text, words_text};
 
+use crate::digits::word_digits;
 use arrayvec::ArrayVec;
 use itoa::Buffer;
 use xk_base::ThreadId;
@@ -49,17 +50,12 @@ pub fn append_byte(out: &mut Line, byte: u8)
 }
 
 /// Appends the word as eight hexadecimal digits.
-#[tactic(auto, using(crate::proofs::DigitLemmas::encoded_word))]
 pub fn append_word(out: &mut Line, word: u32)
     requires { array_vec_len out.old + 8 ≤ 160 }
     ensures text { out.new.items ≡ out.old.items ++ word_text word }
     ensures len { array_vec_len out.new ≡ array_vec_len out.old + 8 }
 {
-    let mut digits = [0u8; 8];
-    match hex::encode_to_slice(word.to_be_bytes().as_slice(), &mut digits) {
-        Ok(()) => append(out, &digits),
-        Err(_) => unreachable!(),
-    }
+    append(out, &word_digits(word));
 }
 
 /// Appends each word after a space.

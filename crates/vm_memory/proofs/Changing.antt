@@ -7,6 +7,7 @@ pub mod CountLemmas
 pub mod CrowdedLemmas
 pub mod ForgettingLemmas
 pub mod HereLemmas
+pub mod LastFrameLemmas
 pub mod LoanCallLemmas
 pub mod LoopLemmas
 pub mod OnePlaceLemmas

@@ -35,7 +35,8 @@ pub struct Memory<W: SwapStore> {
     slots: u32,
     // Pages and orphans, the console not counted.
     pages: u32,
-    // The frame where the search for a page to put out begins.
+    // The frame where the search for a page to put out begins. Where there are more pages than stand
+    // in frames, and the frame before it is free, no other frame is.
     hand: u32,
 }
 

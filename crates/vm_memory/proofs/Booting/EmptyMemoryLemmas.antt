@@ -166,6 +166,7 @@ module _ {W : Type 0} (S : SwapStore W) (m : Memory W) (procs frames count : ℕ
       within = (omega (arith, first_m), omega (arith, first_m, frames_m, e.tables));
       free = ap (λ I. I (frame_seat (21 * procs))) e.infos;
     };
+    last = λ unused at over. absurd (omega (arith, over, e.pages));
   }
 
   pub empty_fills : FillsFirstFrames m

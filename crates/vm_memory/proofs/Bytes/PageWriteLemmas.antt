@@ -1,6 +1,6 @@
 -- A page of a memory is written. Nothing else of the memory changes.
 use Rattle.xk_ports.specs.declared.store.SwapStore.{Ghosts as SwapStore}
-use Rattle.std.proofs.Common.{◌≡◌, ℕ, ◌+◌, ◌*◌, ◌≤◌, if◌then◌else◌, true, List, [], ◌++◌, length, drop, nat_eq, Option, Some, None, refl, sym, ap, subst, ◌∙◌, arith}
+use Rattle.std.proofs.Common.{◌≡◌, ℕ, ◌+◌, ◌*◌, ◌<◌, ◌≤◌, if◌then◌else◌, true, List, [], ◌++◌, length, drop, nat_eq, Option, Some, None, refl, sym, ap, subst, ◌∙◌, arith}
 use Rattle.std.proofs.lemmas.Bool.{false≢true}
 use Rattle.std.proofs.lemmas.List.{drop_all, append-nil}
 use Rattle.xk_base.specs.Tables.Counting.{put_at}
@@ -12,7 +12,7 @@ use Rattle.phys_pages.specs.declared.infos.Seat.TheVariants.{Frame, Slot}
 use Rattle.phys_pages.specs.Owners.{extent, infos}
 use Rattle.phys_pages.specs.Ram.{RamBytes, Area, IsPlaced, area, pages as page_of_frame, with_page}
 use Rattle.phys_pages.proofs.PageLemmas.{length-pages, pages-with_page, area-with_page}
-use Rattle.boot_plan.specs.Capacity.{capacity}
+use Rattle.boot_plan.specs.Capacity.{capacity, page_frames}
 use Rattle.xk_base.specs.Numbers.Limits.{table_frames}
 use Rattle.ledger_model.specs.Lawful.{IsLawful}
 use Rattle.ledger_model.specs.Ledger.{pages}
@@ -31,7 +31,7 @@ use Rattle.sv32_space.proofs.EntryLemmas.{entries_after_page}
 use Rattle.sv32_space.proofs.SpaceLemmas.{made_after_page}
 use Rattle.vm_memory.specs.declared.memory.Memory.{Memory}
 use Rattle.vm_memory.specs.Using.Access.{reaches_bytes, write_page}
-use Rattle.vm_memory.specs.Bytes.{names_frame, is_near}
+use Rattle.vm_memory.specs.Bytes.{names_frame, is_near, used_frames}
 use Rattle.sv32_space.specs.EntryReach.{side_name}
 use Rattle.vm_memory.specs.Loaning.Lending.{frame_named, with_bytes_at}
 use Rattle.vm_memory.specs.Memory.{size, processes, capacity_of, ledger, blank_ledger}
@@ -87,6 +87,8 @@ module _ {W : Type 0} (S : SwapStore W) (m : Memory W) (sound : IsSound S.slot_c
     pages = sound.pages ∙ ap (pages (processes m)) (sym blank_after);
     seats = sound.seats;
     room = sound.room;
+    last = λ unused at over. subst (λ (a : Area). page_frames a.frames (processes m) ≤ used_frames m.owners) (sym same_area)
+        (sound.last unused at (subst (λ (a : Area). page_frames a.frames (processes m) < m.pages) same_area over));
   }
 
   pub size_after : size n ≡ size m

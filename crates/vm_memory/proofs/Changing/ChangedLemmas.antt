@@ -23,7 +23,7 @@ use Rattle.sv32_space.proofs.Ledgers.SeatByteLemmas.{used_bytes}
 use Rattle.vm_memory.specs.declared.memory.Memory.{Memory}
 use Rattle.vm_memory.specs.Bytes.{used_frames, used_slots}
 use Rattle.vm_memory.specs.Memory.{blank_ledger, capacity_of, frames_for_pages, ledger, processes}
-use Rattle.vm_memory.specs.Sound.{IsSound}
+use Rattle.vm_memory.specs.Sound.{IsSound, KnowsLastFrame}
 use Rattle.vm_memory.specs.Tie.{IsTied}
 use Rattle.vm_memory.proofs.Changing.CountLemmas.{seats_count, frame_left}
 use Rattle.vm_memory.proofs.Changing.SoundMemoryLemmas.{sound-tied}
@@ -113,8 +113,9 @@ module _ {W : Type 0} (S : SwapStore W) (m n : Memory W) (E : Entries) (I : Info
 
   -- SOUND: it stays sound where entries and owners agree, the ledger is lawful, and its pages are counted
   sound_there : EntriesAgree (processes m) E I → IsLawful (processes m) (capacity_of m) blank
-      → n.pages ≡ pages (processes m) blank → (n.failed ≡ false → HasUnusedFrame (extent n.owners) (infos n.owners)) → IsSound S.slot_count n
-  sound_there agree lawful counted room = record {
+      → n.pages ≡ pages (processes m) blank → (n.failed ≡ false → HasUnusedFrame (extent n.owners) (infos n.owners))
+      → (used_frames n.owners + used_slots n.owners ≡ n.pages → KnowsLastFrame n) → IsSound S.slot_count n
+  sound_there agree lawful counted room last = record {
     agree = agrees_there agree;
     procs = c.procs ∙ (sound.procs ∙ sym (ap procs_of c.extent));
     slots = c.slots ∙ (sound.slots ∙ sym (ap (λ (t : Extent). t.slots) c.extent));
@@ -128,6 +129,7 @@ module _ {W : Type 0} (S : SwapStore W) (m n : Memory W) (E : Entries) (I : Info
     pages = counted ∙ sym pages_there;
     seats = count_there agree ∙ sym (counted ∙ sym pages_there);
     room = room;
+    last = last (count_there agree ∙ sym (counted ∙ sym pages_there));
   }
 
   -- the bytes of the seats that were used stay, where those of their frames do
@@ -164,6 +166,7 @@ module _ {W : Type 0} (S : SwapStore W) (m n : Memory W) (E : Entries) (I : Info
       (lawful : IsLawful (processes m) (capacity_of m) (step (blank_ledger m)))
       (counted : n.pages ≡ pages (processes m) (step (blank_ledger m)))
       (room : n.failed ≡ false → HasUnusedFrame (extent n.owners) (infos n.owners))
+      (last : used_frames n.owners + used_slots n.owners ≡ n.pages → KnowsLastFrame n)
       (stay : (f : ℕ) (info : PageInfo) → infos m.owners (frame_seat f) ≡ Some info → page_of_frame n.ram f ≡ page_of_frame m.ram f) where
     -- .. from zeros, and from the bytes that are there now
     pub step_from : blank ≡ step (blank_ledger m)
@@ -171,7 +174,7 @@ module _ {W : Type 0} (S : SwapStore W) (m n : Memory W) (E : Entries) (I : Info
         → IsStep S m n step
     step_from zeros now =
         let stays : IsSound S.slot_count n = sound_there agree
-        (subst (λ l. IsLawful (processes m) (capacity_of m) l) (sym zeros) lawful) (counted ∙ ap (pages (processes m)) (sym zeros)) room in
+        (subst (λ l. IsLawful (processes m) (capacity_of m) l) (sym zeros) lawful) (counted ∙ ap (pages (processes m)) (sym zeros)) room last in
         record { sound = stays; tie = sound-tied S n stays; ledger = ledger_there ∙ (now ∙ ap step (ledger_before stay)) }
 
     -- THE STEP: .. from any bytes. So it is with each call that moves no byte: removals, rights and loans.

@@ -33,7 +33,7 @@ use Rattle.vm_memory.specs.Memory.{blank_ledger, capacity_of, ledger, processes}
 use Rattle.vm_memory.specs.Sound.{IsSound}
 use Rattle.vm_memory.proofs.Changing.ChangedLemmas.{IsStep, no_bytes}
 use Rattle.vm_memory.proofs.Changing.OnePlaceLemmas.{lone_page, can_remove, can_reduce, none_less}
-use Rattle.vm_memory.proofs.Changing.PageStepLemmas.{IsWritten, entry_process, free_entry, user_process, within_of, written_step}
+use Rattle.vm_memory.proofs.Changing.PageStepLemmas.{IsWritten, entry_last, entry_process, free_entry, user_process, within_of, written_step}
 
 -- the console's right has no x
 no_fetch : (asked : Right) (w : Bool) → is_within asked (record { w = w; x = false }) ≡ true → asked.x ≡ false
@@ -74,12 +74,12 @@ module _ {W : Type 0} (S : SwapStore W) (m : Memory W) (sound : IsSound S.slot_c
   pub console_gone_step : (new : RamBytes) (w : Bool) → E at ≡ Some (OnConsole w) → IsWritten m.ram new at Free
       → IsStep S m (record m { ram = new }) (remove (in_run at 1))
   console_gone_step new w here k =
-      written_step S m sound at new m.owners m.pages Free I (entry_process S m sound at (OnConsole w) here) k refl refl
+      written_step S m sound at new m.owners m.pages m.hand Free I (entry_process S m sound at (OnConsole w) here) k refl refl
       (remove (in_run at 1)) (unmap_console_agrees (processes m) E I at w sound.agree.entries here)
       (remove_lawful (processes m) (capacity_of m) (in_run at 1) (blank_ledger m) sound.lawful
       (can_remove (processes m) (blank_ledger m) at (console_right w) Console (console_page w here)))
       (sound.pages ∙ sym (none_less (processes m) (blank_ledger m) at (console_right w) Console (console_page w here) refl))
-      (λ f free. free)
+      (λ f free. free) (entry_last S m sound at new k.area)
       (λ C. unmap_console_ledger E I C at w here)
 
   console_within : (w : Bool) (new : Right) → E at ≡ Some (OnConsole w) → asks_more new ((ledger S.held m).home at) ≡ false
@@ -93,12 +93,12 @@ module _ {W : Type 0} (S : SwapStore W) (m : Memory W) (sound : IsSound S.slot_c
       → IsStep S m (record m { ram = new_ram }) (reduce (in_run at 1) new)
   console_reduced_step new_ram w new here asked k =
       let within : is_within new (console_right w) ≡ true = console_within w new here asked in
-      written_step S m sound at new_ram m.owners m.pages (OnConsole new.w) I (entry_process S m sound at (OnConsole w) here) k refl refl
+      written_step S m sound at new_ram m.owners m.pages m.hand (OnConsole new.w) I (entry_process S m sound at (OnConsole w) here) k refl refl
       (reduce (in_run at 1) new) (reduce_console_agrees (processes m) E I at w new.w sound.agree.entries here)
       (reduce_lawful (processes m) (capacity_of m) (in_run at 1) new (blank_ledger m) sound.lawful
       (can_reduce (processes m) (blank_ledger m) at (console_right w) Console (console_page w here) new within))
       (sound.pages ∙ sym (reduce_pages (processes m) (in_run at 1) new (blank_ledger m)))
-      (λ f free. free)
+      (λ f free. free) (entry_last S m sound at new_ram k.area)
       (λ C. reduce_console_ledger E I C at w new here (no_fetch new w within))
 
   blank_can : CanMakeConsole (processes m) (ledger S.held m) at → CanMakeConsole (processes m) (blank_ledger m) at
@@ -115,9 +115,9 @@ module _ {W : Type 0} (S : SwapStore W) (m : Memory W) (sound : IsSound S.slot_c
   console_made_step new_ram w can k =
       let user = is_place_in-user (processes m) Map at can.lies in
       let free : E at ≡ Some Free = free_entry S m sound at user can.free in
-      written_step S m sound at new_ram m.owners m.pages (OnConsole w) I (user_process (processes m) at user) k refl refl
+      written_step S m sound at new_ram m.owners m.pages m.hand (OnConsole w) I (user_process (processes m) at user) k refl refl
       (make_console at w) (map_console_agrees (processes m) E I at w sound.agree.entries free)
       (make_console_lawful (processes m) (capacity_of m) at w (blank_ledger m) sound.lawful (blank_can can))
       (sound.pages ∙ sym (make_console_pages (processes m) at w (blank_ledger m) (blank_can can)))
-      (λ f free. free)
+      (λ f free. free) (entry_last S m sound at new_ram k.area)
       (λ C. map_console_ledger E I C at w free)

@@ -1,10 +1,10 @@
 -- A call on loans does to a memory what it does to entries and owners.
 use Rattle.xk_ports.specs.declared.store.SwapStore.{Ghosts as SwapStore}
 use Rattle.xk_base.specs.Tables.Circle.{is_pid}
-use Rattle.std.proofs.Common.{◌≡◌, ℕ, ◌+◌, ◌-◌, ◌≤◌, Bool, true, false, Option, Some, None, Result, Ok, Err, refl, sym, ap, subst, ◌∙◌, arith}
+use Rattle.std.proofs.Common.{◌≡◌, ℕ, ◌+◌, ◌-◌, ◌<◌, ◌≤◌, Bool, true, false, Option, Some, None, Result, Ok, Err, refl, sym, ap, subst, ◌∙◌, inl, inr, arith}
 use Rattle.std.specs.Prelude.{nat_le, if◌then◌else◌}
 use Rattle.std.specs.Option.{option_map_or}
-use Rattle.std.proofs.lemmas.Bool.{and_from, le-leb}
+use Rattle.std.proofs.lemmas.Bool.{and_from, cases_eq, le-leb}
 use Rattle.xk_base.specs.declared.errors.XousError.{XousError}
 use Rattle.xk_base.specs.declared.errors.XousError.TheVariants.{BadAddress, ShareViolation}
 use Rattle.xk_base.specs.declared.ids.Number.{Number}
@@ -56,11 +56,13 @@ use Rattle.loan_flags.proofs.FreeRunLemmas.{least_by_entries}
 use Rattle.loan_flags.proofs.SentLedgerLemmas.{missing_is_free, unsendable_is_not_sent}
 use Rattle.vm_memory.specs.declared.memory.Memory.{Memory}
 use Rattle.vm_memory.specs.Loaning.Loans.{KeepsSeats, orphans_of}
-use Rattle.vm_memory.specs.Memory.{blank_ledger, capacity_of, ledger, processes}
+use Rattle.vm_memory.specs.Bytes.{used_frames, used_slots}
+use Rattle.vm_memory.specs.Memory.{blank_ledger, capacity_of, frames_for_pages, ledger, processes}
 use Rattle.vm_memory.specs.Loaning.Sending.{IsFreeArrival, send_answer}
-use Rattle.vm_memory.specs.Sound.{IsSound}
+use Rattle.vm_memory.specs.Sound.{IsSound, KnowsLastFrame}
 use Rattle.vm_memory.proofs.Changing.CallLemmas.{means-kept, none_out-kept}
 use Rattle.vm_memory.proofs.Changing.ChangedLemmas.{IsChanged, frames_stay, room_kept, step_there}
+use Rattle.vm_memory.proofs.Changing.LastFrameLemmas.{last_anew, last_same}
 use Rattle.vm_memory.proofs.Changing.PageStepLemmas.{free_entry}
 use Rattle.vm_memory.proofs.Changing.SoundMemoryLemmas.{bare-ledger}
 
@@ -190,11 +192,11 @@ pub record DoesStep {W : Type 0} (S : SwapStore W) (m n : Memory W) (step : Ledg
   pub keeps : KeepsSeats S m n
 
 module _ {W : Type 0} (S : SwapStore W) (m : Memory W) (sound : IsSound S.slot_count m)
-    (ram : RamBytes) (owners : OwnerTable) (count : ℕ)
+    (ram : RamBytes) (owners : OwnerTable) (count hand : ℕ)
     (agree : agrees ram owners) (keeps : KeepsPages (tables m.ram m.owners) (tables ram owners)) where
   -- the memory after the call
   abbrev n : Memory W
-  n = record m { ram = ram; owners = owners; pages = count }
+  n = record m { ram = ram; owners = owners; pages = count; hand = hand }
 
   same_procs : processes n ≡ processes m
   same_procs = ap procs_of keeps.extent
@@ -218,10 +220,10 @@ module _ {W : Type 0} (S : SwapStore W) (m : Memory W) (sound : IsSound S.slot_c
   -- Where the step is made from any bytes, and lawful and counted pages follow, the memory makes it.
   pub does_step : (step : Ledger → Ledger) → IsLedgerStep step (tables m.ram m.owners) (tables ram owners)
       → IsLawful (processes m) (capacity_of m) (step (blank_ledger m)) → count ≡ pages (processes m) (step (blank_ledger m))
-      → DoesStep S m n step
-  does_step step steps lawful counted =
+      → (used_frames owners + used_slots owners ≡ count → KnowsLastFrame n) → DoesStep S m n step
+  does_step step steps lawful counted last =
       let there = step_there S m n (entries (processes m) ram) (infos owners) sound changed step agree_there lawful counted
-      (λ usable. room_kept m n keeps.extent (λ f free. keeps.free (frame_seat f) free) (sound.room usable))
+      (λ usable. room_kept m n keeps.extent (λ f free. keeps.free (frame_seat f) free) (sound.room usable)) last
       (frames_stay S m n (entries (processes m) ram) (infos owners) sound changed keeps.pages)
       (λ B. ap (λ k. ledger_of (entries k ram) (infos owners) B) (sym same_procs) ∙ steps B) in
       record {
@@ -238,57 +240,67 @@ module _ {W : Type 0} (S : SwapStore W) (m : Memory W) (sound : IsSound S.slot_c
         };
       }
 
+  -- what is known of the frame before that at hand stays where as many pages are left
+  known_still : count ≡ m.pages → hand ≡ m.hand → used_frames owners + used_slots owners ≡ count → KnowsLastFrame n
+  known_still whole at seats =
+      last_same m n (record { hand = at; table = keeps.extent; area = keeps.area }) whole keeps.free sound.seats seats sound.last
+
   -- .. as a call that keeps the number of pages
   kept : (step : Ledger → Ledger) → IsLedgerStep step (tables m.ram m.owners) (tables ram owners)
       → IsLawful (processes m) (capacity_of m) (step (blank_ledger m)) → pages (processes m) (step (blank_ledger m)) ≡ pages (processes m) (blank_ledger m)
-      → count ≡ m.pages → DoesStep S m n step
-  kept step steps lawful same whole = does_step step steps lawful (whole ∙ (sound.pages ∙ sym same))
+      → count ≡ m.pages → hand ≡ m.hand → DoesStep S m n step
+  kept step steps lawful same whole at = does_step step steps lawful (whole ∙ (sound.pages ∙ sym same)) (known_still whole at)
 
   pub lent : (from : Place) (k : ℕ) (to : Place) (kind : LoanKind) (number : Number)
       → IsLedgerStep (lend from k to kind number) (tables m.ram m.owners) (tables ram owners)
-      → CanLend (processes m) (ledger S.held m) from k to kind number → count ≡ m.pages
+      → CanLend (processes m) (ledger S.held m) from k to kind number → count ≡ m.pages → hand ≡ m.hand
       → DoesStep S m n (lend from k to kind number)
-  lent from k to kind number steps can whole =
+  lent from k to kind number steps can whole at =
       let blank : CanLend (processes m) (blank_ledger m) from k to kind number =
       bare-can_lend (processes m) (ledger S.held m) (blank_ledger m) (sym (bare-ledger S.held m)) from k to kind number can in
       kept (lend from k to kind number) steps
       (lend_lawful (processes m) from k to kind number (blank_ledger m) blank (capacity_of m) sound.lawful)
-      (lend_pages (processes m) from k to kind number (blank_ledger m)) whole
+      (lend_pages (processes m) from k to kind number (blank_ledger m)) whole at
 
   pub given : (from : Place) (k : ℕ) (to : Place)
       → IsLedgerStep (give from k to) (tables m.ram m.owners) (tables ram owners)
-      → CanGive (processes m) (ledger S.held m) from k to → count ≡ m.pages
+      → CanGive (processes m) (ledger S.held m) from k to → count ≡ m.pages → hand ≡ m.hand
       → DoesStep S m n (give from k to)
-  given from k to steps can whole =
+  given from k to steps can whole at =
       let blank : CanGive (processes m) (blank_ledger m) from k to =
       bare-can_give (processes m) (ledger S.held m) (blank_ledger m) (sym (bare-ledger S.held m)) from k to can in
       kept (give from k to) steps
       (give_lawful (processes m) from k to (blank_ledger m) blank (capacity_of m) sound.lawful)
-      (give_pages (processes m) from k to (blank_ledger m) blank (capacity_of m) sound.lawful) whole
+      (give_pages (processes m) from k to (blank_ledger m) blank (capacity_of m) sound.lawful) whole at
 
   pub passed : (loan : LoanRun) (to : Place)
       → IsLedgerStep (pass loan.number loan.holder to) (tables m.ram m.owners) (tables ram owners)
-      → CanPass (processes m) (ledger S.held m) loan to → count ≡ m.pages
+      → CanPass (processes m) (ledger S.held m) loan to → count ≡ m.pages → hand ≡ m.hand
       → DoesStep S m n (pass loan.number loan.holder to)
-  passed loan to steps can whole =
+  passed loan to steps can whole at =
       let blank : CanPass (processes m) (blank_ledger m) loan to =
       bare-can_pass (processes m) (ledger S.held m) (blank_ledger m) (sym (bare-ledger S.held m)) loan to can in
       kept (pass loan.number loan.holder to) steps
       (pass_lawful (processes m) (blank_ledger m) loan to blank (capacity_of m) sound.lawful)
-      (pass_pages (processes m) loan.number loan.holder to (blank_ledger m)) whole
+      (pass_pages (processes m) loan.number loan.holder to (blank_ledger m)) whole at
 
   pub orphaned : (number : Number)
-      → IsLedgerStep (orphan_loan (processes m) number) (tables m.ram m.owners) (tables ram owners) → count ≡ m.pages
+      → IsLedgerStep (orphan_loan (processes m) number) (tables m.ram m.owners) (tables ram owners) → count ≡ m.pages → hand ≡ m.hand
       → DoesStep S m n (orphan_loan (processes m) number)
-  orphaned number steps whole =
+  orphaned number steps whole at =
       kept (orphan_loan (processes m) number) steps
       (orphan_loan_lawful (processes m) (capacity_of m) number (blank_ledger m) sound.lawful)
-      (orphan_loan_pages (processes m) (capacity_of m) number (blank_ledger m) sound.lawful) whole
+      (orphan_loan_pages (processes m) (capacity_of m) number (blank_ledger m) sound.lawful) whole at
 
   -- the orphans of a loan without a lender go
   pub ended : (loan : LoanRun) → IsLedgerStep (end_loan loan.number) (tables m.ram m.owners) (tables ram owners)
       → Stands (loans (ledger S.held m)) loan → count ≡ m.pages - orphans_of loan
+      → (orphans_of loan ≡ 0 → hand ≡ m.hand) → (1 ≤ orphans_of loan → frames_for_pages m < count → hand ≡ 0)
       → DoesStep S m n (end_loan loan.number)
-  ended loan steps stands left = does_step (end_loan loan.number) steps
+  ended loan steps stands left at anew = does_step (end_loan loan.number) steps
       (end_loan_lawful (processes m) (capacity_of m) loan.number (blank_ledger m) sound.lawful)
       (left ∙ sym (orphans_gone S m sound loan stands))
+      (λ seats. elim (cases_eq (orphans_of loan) 0) [
+        | inl none ↦ known_still (omega (arith, left, none)) (at none) seats
+        | inr some ↦ last_anew m n keeps.extent keeps.area (λ over. anew (omega (arith, some)) over)
+      ])

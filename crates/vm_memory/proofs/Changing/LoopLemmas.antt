@@ -3,8 +3,12 @@ use Rattle.xk_ports.specs.declared.store.SwapStore.{Ghosts as SwapStore}
 use Rattle.std.proofs.Common.{◌≡◌, ℕ, ◌+◌, ◌<◌, ◌≤◌, ◌^◌, true, false, refl, sym, ap, ◌∙◌, inl, inr, arith}
 use Rattle.std.proofs.lemmas.Bool.{both_ways, cases_lt}
 use Rattle.boot_plan.specs.Capacity.{capacity, page_frames}
+use Rattle.std.specs.Prelude.{is_some}
+use Rattle.xk_base.specs.declared.ids.Frame.{Frame as FrameNumber}
 use Rattle.xk_base.specs.declared.ids.Place.{Place}
 use Rattle.xk_base.specs.declared.pages.Right.{Right}
+use Rattle.phys_pages.specs.declared.infos.Seat.TheVariants.{Frame}
+use Rattle.phys_pages.specs.Owners.{infos}
 use Rattle.ledger_model.specs.Conditions.{CanMake}
 use Rattle.ledger_model.specs.Ledger.{Ledger, pages}
 use Rattle.ledger_model.specs.Places.{in_run, is_user_place, place_after}
@@ -16,10 +20,12 @@ use Rattle.ledger_model.proofs.PlaceLemmas.{IsInRun, in_run-after, in_run-from, 
 use Rattle.sv32_space.specs.Tie.{Held}
 use Rattle.sv32_space.proofs.RunLemmas.{make_next, remove_next, reduce_next}
 use Rattle.vm_memory.specs.declared.memory.Memory.{Memory}
+use Rattle.vm_memory.specs.Bytes.{none_out}
 use Rattle.vm_memory.specs.Pages.Changing.{ChangesPagesAlone}
 use Rattle.vm_memory.specs.Memory.{Size, capacity_of, frames_for_pages, ledger, processes}
 use Rattle.vm_memory.specs.Sound.{IsSound}
 use Rattle.vm_memory.proofs.Using.NowhereLemmas.{no_user}
+use Rattle.vm_memory.proofs.Changing.LastFrameLemmas.{last_used}
 use Rattle.vm_memory.proofs.Changing.RunLemmas.{free_ahead, lent_ahead, lent_ahead_reduced, within_ahead}
 use Rattle.vm_memory.proofs.Changing.ShiftedLemmas.{unmoved}
 use Rattle.vm_memory.proofs.Changing.SoundMemoryLemmas.{pages-ledger}
@@ -50,14 +56,19 @@ rest_then a b c first second = record {
 
 -- ---- another frame at hand
 
-pub handed_sound : {W : Type 0} (S : SwapStore W) (m : Memory W) → IsSound S.slot_count m → (hand : ℕ) → IsSound S.slot_count (record m { hand = hand })
-handed_sound S m sound hand =
-    let moves = unmoved S m sound m.failed hand (λ usable. sound.room usable) in
+pub handed_sound : {W : Type 0} (S : SwapStore W) (m : Memory W) → IsSound S.slot_count m → (f : FrameNumber) (hand : ℕ) → hand ≡ f.0 + 1
+    → is_some (infos m.owners (Frame f)) ≡ true → IsSound S.slot_count (record m { hand = hand })
+handed_sound S m sound f hand behind used =
+    let moves = unmoved S m sound m.failed hand (λ usable. sound.room usable) (last_used (record m { hand = hand }) f behind used) in
     moves.sound
 
 pub handed_ledger : {W : Type 0} (held : W → Held) (m : Memory W) (hand : ℕ) → ledger held (record m { hand = hand }) ≡ ledger held m
 unfolding ledger
 handed_ledger held m hand = refl
+
+pub handed_none : {W : Type 0} (m : Memory W) (hand : ℕ) → none_out (record m { hand = hand }) ≡ none_out m
+unfolding none_out
+handed_none m hand = refl
 
 pub handed_rest : {W : Type 0} (old new : Memory W) (hand : ℕ) → ChangesPagesAlone old new → ChangesPagesAlone old (record new { hand = hand })
 handed_rest old new hand rest = record { size = rest.size; store = rest.store; failed = rest.failed; slots = rest.slots }

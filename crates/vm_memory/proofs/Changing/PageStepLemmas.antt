@@ -48,10 +48,11 @@ use Rattle.sv32_space.proofs.Agreeing.RoleLemmas.{free_by_entry}
 use Rattle.vm_memory.specs.declared.memory.Memory.{Memory}
 use Rattle.vm_memory.specs.declared.memory.changes.Owned.{Owned}
 use Rattle.vm_memory.specs.declared.memory.changes.Owned.TheVariants as owned
-use Rattle.vm_memory.specs.Pages.Changing.{IsFreeFrame, owned_in}
+use Rattle.vm_memory.specs.Pages.Changing.{IsFrameAtHand, IsFreeFrame, owned_in}
 use Rattle.vm_memory.specs.Memory.{blank_ledger, capacity_of, frames_for_pages, ledger, processes}
-use Rattle.vm_memory.specs.Sound.{IsSound}
+use Rattle.vm_memory.specs.Sound.{IsSound, KnowsLastFrame}
 use Rattle.vm_memory.proofs.Changing.ChangedLemmas.{IsChanged, IsStep, no_bytes, frames_stay, room_kept, room_there, step_from, step_there}
+use Rattle.vm_memory.proofs.Changing.LastFrameLemmas.{last_anew, last_kept, last_placed}
 use Rattle.sv32_space.proofs.Agreeing.EntryRoleLemmas.{entry_role, role-entry}
 use Rattle.vm_memory.proofs.Changing.OnePlaceLemmas.{in_one, lone_page, can_remove, can_reduce, one_less, reduce_nothing}
 
@@ -179,11 +180,11 @@ module _ {W : Type 0} (S : SwapStore W) (m : Memory W) (sound : IsSound S.slot_c
 
   -- ---- one entry is written, and one seat of the table, but no byte of a page
 
-  module _ (new : RamBytes) (owners : OwnerTable) (count : ℕ) (entry : Entry) (J : Infos)
+  module _ (new : RamBytes) (owners : OwnerTable) (count hand : ℕ) (entry : Entry) (J : Infos)
       (process : is_pid (processes m) at.pid.0 ≡ true) (w : IsWritten m.ram new at entry)
       (told : infos owners ≡ J) (table : extent owners ≡ extent m.owners) where
     abbrev n : Memory W
-    n = record m { ram = new; owners = owners; pages = count }
+    n = record m { ram = new; owners = owners; pages = count; hand = hand }
 
     changed : IsChanged m n (with_entry E at entry) J
     changed = record {
@@ -200,11 +201,11 @@ module _ {W : Type 0} (S : SwapStore W) (m : Memory W) (sound : IsSound S.slot_c
 
     pub written_step : (step : Ledger → Ledger) → EntriesAgree (processes m) (with_entry E at entry) J
         → IsLawful (processes m) (capacity_of m) (step (blank_ledger m)) → count ≡ pages (processes m) (step (blank_ledger m))
-        → ((f : ℕ) → infos m.owners (frame_seat f) ≡ None → infos owners (frame_seat f) ≡ None)
+        → ((f : ℕ) → infos m.owners (frame_seat f) ≡ None → infos owners (frame_seat f) ≡ None) → KnowsLastFrame n
         → ((C : SeatBytes) → ledger_of (with_entry E at entry) J C ≡ step (ledger_of E I C)) → IsStep S m n step
-    written_step step agree lawful counted free each =
+    written_step step agree lawful counted free last each =
         step_there S m n (with_entry E at entry) J sound changed step agree lawful counted
-        (λ usable. room_kept m n table free (sound.room usable))
+        (λ usable. room_kept m n table free (sound.room usable)) (λ seats. last)
         (frames_stay S m n (with_entry E at entry) J sound changed (λ g low. w.pages (processes m) g process low)) each
 
   -- ---- a page goes
@@ -218,17 +219,20 @@ module _ {W : Type 0} (S : SwapStore W) (m : Memory W) (sound : IsSound S.slot_c
   pub some_page : (right : Right) (s : Seat) → E at ≡ Some (At (Own right) s) → 1 ≤ m.pages
   some_page right s here = omega (arith, sound.pages, page_less right s here)
 
-  pub gone_step : (new : RamBytes) (owners : OwnerTable) (right : Right) (s : Seat) → E at ≡ Some (At (Own right) s)
+  -- .. and the search for a frame goes on from the first, where more pages are left than stand in frames
+  pub gone_step : (new : RamBytes) (owners : OwnerTable) (hand : ℕ) (right : Right) (s : Seat) → E at ≡ Some (At (Own right) s)
       → IsWritten m.ram new at Free
       → infos owners ≡ put_at seat_eq (infos m.owners) s None → extent owners ≡ extent m.owners
-      → IsStep S m (record m { ram = new; owners = owners; pages = m.pages - 1 }) (remove (in_run at 1))
-  gone_step new owners right s here w told table =
-      written_step new owners (m.pages - 1) Free (with_info I s None) (entry_process (At (Own right) s) here) w told table
+      → (frames_for_pages m < m.pages - 1 → hand ≡ 0)
+      → IsStep S m (record m { ram = new; owners = owners; pages = m.pages - 1; hand = hand }) (remove (in_run at 1))
+  gone_step new owners hand right s here w told table anew =
+      written_step new owners (m.pages - 1) hand Free (with_info I s None) (entry_process (At (Own right) s) here) w told table
       (remove (in_run at 1)) (remove_agrees (processes m) E I at right s sound.agree.entries here)
       (remove_lawful (processes m) (capacity_of m) (in_run at 1) (blank_ledger m) sound.lawful
       (can_remove (processes m) (blank_ledger m) at right (Bytes zero_page) (own_page right s here)))
       (omega (arith, sound.pages, page_less right s here))
       (λ f free. ap (λ I. I (frame_seat f)) told ∙ seat_freed (infos m.owners) s (frame_seat f) free)
+      (last_anew m (record m { ram = new; owners = owners; pages = m.pages - 1; hand = hand }) table w.area anew)
       (λ C. remove_ledger (processes m) E I C at right s sound.agree.entries here)
 
   -- where a place has no page of its own, and nothing on loan, there is no home
@@ -263,17 +267,22 @@ module _ {W : Type 0} (S : SwapStore W) (m : Memory W) (sound : IsSound S.slot_c
   unfolding ledger
   page_within right new s here asked = within_of new right (sym (ap (asks_more new) (home_at E I B at (At (Own right) s) here)) ∙ asked)
 
+  -- what is known of the frame before that at hand stays where an entry alone changes
+  pub entry_last : (new : RamBytes) → area new ≡ area m.ram → KnowsLastFrame (record m { ram = new })
+  entry_last new same =
+      last_kept m (record m { ram = new }) (record { hand = refl; table = refl; area = same }) (omega arith) (λ f free. free) sound.last
+
   pub reduced_step : (new_ram : RamBytes) (right new : Right) (s : Seat) → E at ≡ Some (At (Own right) s)
       → asks_more new ((ledger S.held m).home at) ≡ false
       → IsWritten m.ram new_ram at (At (Own new) s)
       → IsStep S m (record m { ram = new_ram }) (reduce (in_run at 1) new)
   reduced_step new_ram right new s here asked w =
-      written_step new_ram m.owners m.pages (At (Own new) s) I (entry_process (At (Own right) s) here) w refl refl
+      written_step new_ram m.owners m.pages m.hand (At (Own new) s) I (entry_process (At (Own right) s) here) w refl refl
       (reduce (in_run at 1) new) (reduce_agrees (processes m) E I at right new s sound.agree.entries here)
       (reduce_lawful (processes m) (capacity_of m) (in_run at 1) new (blank_ledger m) sound.lawful
       (can_reduce (processes m) (blank_ledger m) at right (Bytes zero_page) (own_page right s here) new (page_within right new s here asked)))
       (sound.pages ∙ sym (reduce_pages (processes m) (in_run at 1) new (blank_ledger m)))
-      (λ f free. free)
+      (λ f free. free) (entry_last new_ram w.area)
       (λ C. reduce_ledger (processes m) E I C at right new s sound.agree.entries here)
 
   pub nothing_reduced : (right : Right) → is_on_loan (role_at (processes m) (ledger S.held m) at) ≡ false → owned_in (E at) ≡ owned.Nothing
@@ -299,6 +308,7 @@ module _ {W : Type 0} (S : SwapStore W) (m : Memory W) (sound : IsSound S.slot_c
 
     module _ (new : RamBytes) (owners : OwnerTable) (right : Right) (user : is_user_place (processes m) at ≡ true)
         (free : E at ≡ Some Free) (room : m.pages + 1 ≤ capacity_of m) (left : m.failed ≡ false → m.pages + 1 ≤ frames_for_pages m)
+        (at_hand : frames_for_pages m ≤ m.pages → IsFrameAtHand m f.0)
         (w : IsWritten clean new at (At (Own right) (Frame f)))
         (told : infos owners ≡ put_at seat_eq (infos m.owners) (Frame f) (Some (owned_by at))) (table : extent owners ≡ extent m.owners) where
       abbrev p : Memory W
@@ -330,6 +340,9 @@ module _ {W : Type 0} (S : SwapStore W) (m : Memory W) (sound : IsSound S.slot_c
       zeros : page_of_frame new f.0 ≡ zero_page
       zeros = w.pages (processes m) f.0 process behind
           ∙ (ap (λ P. P f.0) wiped ∙ cond-true (nat_eq f.0 f.0) zero_page (page_of_frame m.ram f.0) (eq-eqb f.0 f.0 refl))
+
+      frame_taken : is_some (infos owners (Frame f)) ≡ true
+      frame_taken = ap (λ J. is_some (J (Frame f))) told ∙ ap is_some (cond-true (seat_eq (Frame f) (Frame f)) (Some (owned_by at)) (I (Frame f)) (eq-eqb f.0 f.0 refl))
 
       stay : (g : ℕ) (info : PageInfo) → infos m.owners (frame_seat g) ≡ Some info → page_of_frame new g ≡ page_of_frame m.ram g
       stay g info i =
@@ -365,4 +378,5 @@ module _ {W : Type 0} (S : SwapStore W) (m : Memory W) (sound : IsSound S.slot_c
           (make_lawful (processes m) (capacity_of m) at 1 right (blank_ledger m) sound.lawful can)
           (ap (λ k. k + 1) sound.pages ∙ sym (make_pages (processes m) (capacity_of m) at 1 right (blank_ledger m) can))
           (λ usable. room_there S m p E2 I2 sound placed agree_then (omega (arith, left usable, counted_then, sound.pages)))
+          (λ seats. last_placed m p f (owned_by at) (record { hand = refl; table = table; area = w.area ∙ same }) told frame_taken refl at_hand)
           stay (from_zeros no_bytes refl) (from_zeros (bytes_at new (S.held m.store)) zeros)

@@ -36,9 +36,10 @@ use Rattle.vm_memory.specs.declared.memory.Memory.{Memory}
 use Rattle.vm_memory.specs.Bytes.{is_known, none_out, used_frames, used_slots}
 use Rattle.vm_memory.specs.Memory.{blank_ledger, capacity_of, ledger, processes}
 use Rattle.vm_memory.specs.Pages.Exchanging.{IsInFrame, MovesPages}
-use Rattle.vm_memory.specs.Sound.{IsSound}
+use Rattle.vm_memory.specs.Sound.{IsSound, KnowsLastFrame}
 use Rattle.vm_memory.proofs.Changing.CallLemmas.{no_more_used, none_out-kept, none_out-slots, one_more_used}
 use Rattle.vm_memory.proofs.Changing.CountLemmas.{each_counts, seats_count}
+use Rattle.vm_memory.proofs.Changing.LastFrameLemmas.{brought_used, last_kept}
 use Rattle.vm_memory.proofs.Changing.SoundMemoryLemmas.{bare-ledger}
 
 -- THE WORKHORSE: entries and owners agree, the ledger is the same but for its bytes, and the sizes stay.
@@ -68,8 +69,9 @@ module _ {W : Type 0} (S : SwapStore W) (m : Memory W) (sound : IsSound S.slot_c
     unfolding blank_ledger
     seats_now = seats_count (processes n) (entries (processes n) ram) owners agree.entries ∙ sym counted_now
 
-    pub shifted : (failed ≡ false → HasUnusedFrame (extent owners) (infos owners)) → IsSound S.slot_count n
-    shifted room = record {
+    pub shifted : (failed ≡ false → HasUnusedFrame (extent owners) (infos owners))
+        → (used_frames owners + used_slots owners ≡ m.pages → KnowsLastFrame n) → IsSound S.slot_count n
+    shifted room last = record {
       agree = agree;
       procs = sound.procs ∙ sym (ap procs_of sizes.extent);
       slots = sound.slots ∙ sym (ap (λ (t : Extent). t.slots) sizes.extent);
@@ -83,13 +85,15 @@ module _ {W : Type 0} (S : SwapStore W) (m : Memory W) (sound : IsSound S.slot_c
       pages = counted_now;
       seats = seats_now;
       room = room;
+      last = last seats_now;
     }
 
     -- .. so that pages have moved
     pub moved : (IsTrue (is_known S m) → ledger S.held n ≡ ledger S.held m) → KeepsStore S m.store store
-        → (failed ≡ false → HasUnusedFrame (extent owners) (infos owners)) → MovesPages S m n
-    moved whole keeps room = record {
-      sound = shifted room;
+        → (failed ≡ false → HasUnusedFrame (extent owners) (infos owners))
+        → (used_frames owners + used_slots owners ≡ m.pages → KnowsLastFrame n) → MovesPages S m n
+    moved whole keeps room last = record {
+      sound = shifted room last;
       rights = rights;
       whole = whole;
       size = λ i. record { procs = procs_of (sizes.extent i); area = sizes.area i; slots = (sizes.extent i).slots };
@@ -108,19 +112,35 @@ pub moved_in : {W : Type 0} (S : SwapStore W)
     → bare (ledger_in ram owners (S.held store)) ≡ bare (ledger_in m.ram m.owners (S.held m.store))
     → (IsTrue (tells_truly S m.store) → ledger_in ram owners (S.held store) ≡ ledger_in m.ram m.owners (S.held m.store))
     → KeepsStore S m.store store → (failed ≡ false → HasUnusedFrame (extent owners) (infos owners))
+    → (used_frames owners + used_slots owners ≡ m.pages
+    → KnowsLastFrame (record m { ram = ram; owners = owners; store = store; failed = failed; hand = hand }))
     → MovesPages S m (record m { ram = ram; owners = owners; store = store; failed = failed; hand = hand })
 unfolding ledger
-moved_in S m sound ram owners store failed hand agree sizes rights whole keeps room =
-    moved S m sound ram owners store failed hand agree sizes rights keeps.slots whole keeps room
+moved_in S m sound ram owners store failed hand agree sizes rights whole keeps room last =
+    moved S m sound ram owners store failed hand agree sizes rights keeps.slots whole keeps room last
+
+-- .. where a page has come in
+pub came_in : {W : Type 0} (S : SwapStore W)
+    (m : Memory W) → IsSound S.slot_count m → (ram : RamBytes) (owners : OwnerTable) (store : W) (failed : Bool) (from : SlotNumber) (into : FrameNumber)
+    → Moves (tables m.ram m.owners) (tables ram owners) (Slot from) (Frame into) → is_some (infos m.owners (Slot from)) ≡ true
+    → agrees ram owners → KeepsSizes (tables m.ram m.owners) (tables ram owners)
+    → bare (ledger_in ram owners (S.held store)) ≡ bare (ledger_in m.ram m.owners (S.held m.store))
+    → (IsTrue (tells_truly S m.store) → ledger_in ram owners (S.held store) ≡ ledger_in m.ram m.owners (S.held m.store))
+    → KeepsStore S m.store store → (failed ≡ false → HasUnusedFrame (extent owners) (infos owners))
+    → MovesPages S m (record m { ram = ram; owners = owners; store = store; failed = failed })
+came_in S m sound ram owners store failed from into moves used agree sizes rights whole keeps room =
+    moved_in S m sound ram owners store failed m.hand agree sizes rights whole keeps room
+    (λ seats. last_kept m (record m { ram = ram; owners = owners; store = store; failed = failed })
+    (record { hand = refl; table = sizes.extent; area = sizes.area }) (omega arith) (brought_used m ram owners from into moves used) sound.last)
 
 -- nothing moves where only the mark of failure and the hand change
 pub unmoved : {W : Type 0} (S : SwapStore W)
     (m : Memory W) → IsSound S.slot_count m → (failed : Bool) (hand : ℕ) → (failed ≡ false → HasUnusedFrame (extent m.owners) (infos m.owners))
-    → MovesPages S m (record m { failed = failed; hand = hand })
+    → KnowsLastFrame (record m { failed = failed; hand = hand }) → MovesPages S m (record m { failed = failed; hand = hand })
 unfolding ledger
-unmoved S m sound failed hand room =
+unmoved S m sound failed hand room last =
     moved S m sound m.ram m.owners m.store failed hand sound.agree (record { area = refl; extent = refl }) refl refl
-    (λ known. refl) (keeps_all S m.store) room
+    (λ known. refl) (keeps_all S m.store) room (λ seats. last)
 
 pub same_moves : {W : Type 0} (S : SwapStore W)
     (m : Memory W) → IsSound S.slot_count m → MovesPages S m m

@@ -1,5 +1,5 @@
 -- What a change of pages keeps of a memory, and what an entry says of a page without a loan.
-use Rattle.std.specs.Prelude.{◌≡◌, ℕ, Option, Some, None}
+use Rattle.std.specs.Prelude.{◌≡◌, ℕ, ◌+◌, Option, Some, None}
 use Rattle.xk_base.specs.declared.ids.Slot.{Slot as SlotNumber}
 use Rattle.phys_pages.specs.declared.infos.Seat.{Seat}
 use Rattle.phys_pages.specs.declared.infos.Seat.TheVariants.{Slot}
@@ -30,6 +30,10 @@ TakesNoSeat old new = (s : Seat) → infos old.owners s ≡ None → infos new.o
 pub record IsFreeFrame (owners : OwnerTable) (f : ℕ) : Type 0 where
   pub within : HasSeat (extent owners) (frame_seat f)
   pub free : infos owners (frame_seat f) ≡ None
+
+-- where the frame before that at hand is free, it is this one
+abbrev pub IsFrameAtHand : {W : Type 0} → Memory W → ℕ → Type 0
+IsFrameAtHand m f = (g : ℕ) → m.hand ≡ g + 1 → IsFreeFrame m.owners g → g ≡ f
 
 -- the right of a page's owner, where the page isn't on loan
 abbrev pub own_right : Side → Option Right

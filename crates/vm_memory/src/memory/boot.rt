@@ -1,7 +1,7 @@
 //! A memory with its first pages.
 
 ghost use Rattle.xk_base.specs.Tables.Circle.{is_pid};
-ghost use Rattle.std.specs.Prelude.{◌≡◌, ◌≢◌, ℕ, ◌+◌, ◌-◌, ◌*◌, ◌%◌, ◌<◌, ◌≤◌, true, length, All, AllPairs, IfOk, IfErr, IfNone, IfSome, None, OnOk, OnErr, Some};
+ghost use Rattle.std.specs.Prelude.{◌≡◌, ◌≢◌, ℕ, ◌+◌, ◌-◌, ◌*◌, ◌%◌, ◌<◌, ◌≤◌, true, length, All, AllPairs, IfOk, IfErr, None, OnOk, OnErr, Some};
 ghost use Rattle.boot_plan.specs.Capacity.{page_frames};
 ghost use Rattle.xk_base.specs.Numbers.Limits.{table_frames};
 ghost use Rattle.boot_plan.specs.FirstPages.{planned_pages};
@@ -11,7 +11,7 @@ ghost use Rattle.ledger_model.specs.Ledger.{empty_ledger};
 ghost use Rattle.ledger_model.specs.Loans.{bare};
 ghost use Rattle.ledger_model.specs.Places.{is_user_place};
 ghost use Rattle.ledger_model.specs.Reach.{is_free};
-ghost use Rattle.phys_pages.specs.Owners.{AreSlotsUsed, HasSeat, extent, infos, no_infos, seat_eq};
+ghost use Rattle.phys_pages.specs.Owners.{extent, infos, no_infos, seat_eq};
 ghost use Rattle.phys_pages.specs.Ram.{area, pages};
 ghost use Rattle.sv32_space.specs.Agreement.{owned_by};
 ghost use Rattle.sv32_space.specs.declared.sides.Entry.TheVariants.{Free};
@@ -20,7 +20,7 @@ ghost use Rattle.sv32_space.specs.Spaces.{IsMade};
 ghost use Rattle.sv32_space.specs.SpelledEntries.{entries};
 ghost use Rattle.vm_memory.specs.Bytes.{MeansBytes, none_out, used_frames};
 ghost use Rattle.xk_ports.specs.Keeping.{KeepsStore};
-ghost use Rattle.vm_memory.specs.Pages.Changing.{IsFreeFrame, ChangesPagesAlone};
+ghost use Rattle.vm_memory.specs.Pages.Changing.{IsFrameAtHand, IsFreeFrame, ChangesPagesAlone};
 ghost use Rattle.vm_memory.specs.FirstLedger.{first_ledger, first_page, page_bytes};
 ghost use Rattle.vm_memory.specs.Memory.{IsUsable, capacity_of, frames_for_pages, ledger, processes, size, store_of};
 ghost use Rattle.vm_memory.specs.Sound.{IsSound};
@@ -142,6 +142,7 @@ impl<W: SwapStore> Memory<W> {
         requires room { self.old.pages + 1 ≤ capacity_of self.old }
         requires left { IsUsable self.old → self.old.pages + 1 ≤ frames_for_pages self.old }
         requires frame { IsFreeFrame self.old.owners f.0 }
+        requires hand { frames_for_pages self.old ≤ self.old.pages → IsFrameAtHand self.old f.0 }
         requires page { IsLawfulPage (length file.now) page.now }
         ensures sound { IsSound W.slot_count self.new }
         ensures ledger { ledger W.held self.new ≡ place_page at (first_page file.now page.now) (ledger W.held self.old) }
@@ -153,24 +154,7 @@ impl<W: SwapStore> Memory<W> {
         fill(self.ram.page_mut(f), file, page);
     }
 
-    // A free slot: the first one that was never used, where pages have come in order, or another.
-    fn next_slot(&self) -> Option<Slot>
-        requires sound { IsSound W.slot_count self.now }
-        ensures within { IfSome result (λ s. HasSeat (extent self.now.owners) (Seat.Slot s)) }
-        ensures found { IfSome result (λ s. infos self.now.owners (Seat.Slot s) ≡ None) }
-        ensures none { IfNone result (AreSlotsUsed self.now.owners (extent self.now.owners).slots) }
-    {
-        let frames = self.page_frames() + 1;
-        if frames <= self.pages && self.pages - frames < self.slots {
-            let to = Slot(self.pages - frames);
-            if self.owners.info(Seat::Slot(to)).is_none() {
-                return Some(to);
-            }
-        }
-        self.owners.free_slot()
-    }
-
-    // .. in the last free frame: then another page goes out.
+    // .. in the last free frame: then another page goes out, to the first slot that was never used.
     fn place_crowded(&mut self, at: Place, page: &PagePlan, file: &[u8]) -> Result<(), Failed>
         requires sound { IsSound W.slot_count self.old }
         requires usable { IsUsable self.old }
@@ -184,10 +168,11 @@ impl<W: SwapStore> Memory<W> {
         ensures usable { OnOk result (IsUsable self.new) }
         ensures cause { OnErr result (Rose (W.faults (store_of self.old)) (W.faults (store_of self.new))) }
     {
+        let next = Slot(self.pages.saturating_sub(self.page_frames()));
         let f = self.free_frame();
         self.failed = true;
         self.place_in(at, f, page, file);
-        let Some(to) = self.next_slot() else {
+        let Some(to) = self.next_slot(next) else {
             unreachable!();
         };
         self.put_out(f, to)

@@ -4,7 +4,7 @@
 //! free any more, another page goes out to a free slot. Between the halves the memory counts as
 //! failed, and so it stays where the store fails.
 
-ghost use Rattle.std.specs.Prelude.{◌≡◌, ◌≢◌, ◌+◌, ◌<◌, ◌≤◌, ℕ, Some, None, true, false, IfOk, OnOk, OnErr};
+ghost use Rattle.std.specs.Prelude.{◌≡◌, ◌≢◌, ◌+◌, ◌*◌, ◌<◌, ◌≤◌, ℕ, Some, None, true, false, IfOk, OnOk, OnErr};
 ghost use Rattle.ledger_model.specs.Reach.{owner_may};
 ghost use Rattle.phys_pages.specs.Owners.{AreFramesUsed, HasSeat, IsUsed, extent, infos};
 ghost use Rattle.sv32_space.specs.Agreement.{HasUnusedFrame};
@@ -12,8 +12,8 @@ ghost use Rattle.sv32_space.specs.EntryReach.{entry_may, side_may};
 ghost use Rattle.sv32_space.specs.SpelledEntries.{entries};
 ghost use Rattle.sv32_space.specs.declared.sides.Entry.TheVariants.{At};
 ghost use Rattle.sv32_space.specs.declared.sides.Side.{Side};
-ghost use Rattle.vm_memory.specs.Bytes.{MeansBytesOver, is_out, none_out, pages_out, used_slots};
-ghost use Rattle.vm_memory.specs.Memory.{IsUsable, has_failed, ledger, processes, ram_of, store_of};
+ghost use Rattle.vm_memory.specs.Bytes.{MeansBytesOver, is_out, none_out, pages_out, used_frames, used_slots};
+ghost use Rattle.vm_memory.specs.Memory.{IsUsable, frames_for_pages, has_failed, ledger, processes, ram_of, store_of};
 ghost use Rattle.vm_memory.specs.Pages.Exchanging.{BringsIn, IsInFrame, MovesPages, slot_reached};
 ghost use Rattle.vm_memory.specs.Sound.{IsSound};
 ghost use Rattle.vm_memory.specs.Using.EntryAccess.{entry_target, is_given_target};
@@ -111,10 +111,17 @@ impl<W: SwapStore> Memory<W> {
     }
 
     // The second half of an exchange: where no frame is free, another page than that in the frame
-    // just filled goes out. On Ok the memory may be used again.
-    pub(crate) fn make_room(&mut self, keep: Frame) -> Result<(), Failed>
+    // just filled goes out, to a slot that is searched for from `next` on. On Ok the memory may be used again.
+    pub(crate) fn make_room(
+        &mut self,
+        keep: Frame,
+        full: bool,
+        next: &mut Slot,
+    ) -> Result<(), Failed>
         requires sound { IsSound W.slot_count self.old }
         requires under_way { has_failed self.old ≡ true }
+        requires kept { IsUsed self.old.owners (Seat.Frame keep) }
+        requires full { full ≡ true → frames_for_pages self.old < used_frames self.old.owners }
         ensures moves { MovesPages W.SwapStore self.old self.new }
         // bytes also where no page is out before and after
         ensures over { MeansBytesOver W.SwapStore self.old self.new → ledger W.held self.new ≡ ledger W.held self.old }
@@ -126,20 +133,24 @@ impl<W: SwapStore> Memory<W> {
         ensures failed { OnErr result (has_failed self.new ≡ true) }
         ensures cause { OnErr result (Rose (W.faults (store_of self.old)) (W.faults (store_of self.new))) }
     {
-        if self.owners.free_frame().is_some() {
+        if self.is_frame_free(keep, full) {
             self.failed = false;
+            self.hand = keep.0 + 1;
             return Ok(());
         }
-        let Some(to) = self.owners.free_slot() else {
+        let Some(to) = self.next_slot(*next) else {
             unreachable!();
         };
+        *next = Slot(to.0 + 1);
         self.put_out(keep, to)
     }
 
     // Whether a frame is free while a slot is. None is where there are as many pages as there may be,
     // so that none is searched for then.
-    fn has_free_frame(&self) -> bool
+    fn has_free_frame(&self, from: Frame, full: bool) -> bool
         requires sound { IsSound W.slot_count self.now }
+        requires low { 21 * processes self.now ≤ from.0 }
+        requires full { full ≡ true → frames_for_pages self.now < used_frames self.now.owners }
         requires spare { used_slots self.now.owners < (extent self.now.owners).slots }
         ensures yes { result ≡ true → HasUnusedFrame (extent self.now.owners) (infos self.now.owners) }
         ensures no { result ≡ false
@@ -148,7 +159,7 @@ impl<W: SwapStore> Memory<W> {
         if self.pages == self.cap() {
             return false;
         }
-        self.owners.free_frame().is_some()
+        self.is_frame_free(from, full)
     }
 
     // Brings the page of a slot into a frame. Where no other frame is free, another page goes out to
@@ -167,9 +178,10 @@ impl<W: SwapStore> Memory<W> {
         ensures cause { OnErr result (Rose (W.faults (store_of self.old)) (W.faults (store_of self.new))) }
     {
         let f = self.free_frame();
+        let last = self.is_last(f);
         self.failed = true;
         bring(&mut self.ram, &mut self.owners, &mut self.store, from, f)?;
-        if self.has_free_frame() {
+        if self.has_free_frame(f, last) {
             self.failed = false;
             return Ok(());
         }

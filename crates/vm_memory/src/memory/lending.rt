@@ -14,6 +14,7 @@ ghost use Rattle.vm_memory.specs.Sound.{IsSound};
 ghost use Rattle.xk_base.specs.declared.messages.MemKind.TheVariants.{Move};
 
 use crate::memory::Memory;
+use crate::memory::changes::hand_left;
 use loan_flags::{Loan, end_run, free_run, give_run, lend_run, may_send, orphan_run, pass_run};
 use xk_base::{LoanKind, MemKind, Number, Pid, Place, Vpn, Window, XousError};
 use xk_ports::SwapStore;
@@ -93,9 +94,11 @@ impl<W: SwapStore> Memory<W> {
         ensures fresh { IsFresh (loans (ledger W.held self.new)) loan.number }
         ensures keeps { KeepsSeats W.SwapStore self.old self.new }
     {
+        let frames = self.page_frames();
         let gone = orphans(&loan);
         end_run(&mut self.ram, &mut self.owners, loan);
         self.pages -= gone;
+        self.hand = hand_left(gone, frames, self.pages, self.hand);
     }
 
     /// Takes the lender from a loan: the lender's places are free, and the pages are orphans at the

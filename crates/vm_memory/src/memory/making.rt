@@ -9,7 +9,7 @@ ghost use Rattle.ledger_model.specs.Places.{is_user_place};
 ghost use Rattle.ledger_model.specs.Reach.{is_free};
 ghost use Rattle.ledger_model.specs.Steps.{make};
 ghost use Rattle.phys_pages.specs.Owners.{infos};
-ghost use Rattle.xk_base.specs.declared.ids.Slot.{Slot};
+ghost use Rattle.xk_base.specs.declared.ids.Slot.{Slot as SlotNumber};
 ghost use Rattle.vm_memory.specs.Bytes.{MeansBytes, MeansBytesOver, none_out, pages_out};
 ghost use Rattle.xk_ports.specs.Keeping.{KeepsStore};
 ghost use Rattle.vm_memory.specs.Pages.Changing.{ChangesPagesAlone, TakesNoSeat};
@@ -23,7 +23,7 @@ ghost use Rattle.xk_base.specs.Outside.{Rose};
 use crate::memory::Memory;
 use crate::memory::run_tests::{RunTest, fits};
 use phys_pages::Seat;
-use xk_base::{Failed, Pid, Place, Right, Vpn, Window, XousError};
+use xk_base::{Failed, Pid, Place, Right, Slot, Vpn, Window, XousError};
 use xk_ports::SwapStore;
 
 impl<W: SwapStore> Memory<W> {
@@ -71,7 +71,7 @@ impl<W: SwapStore> Memory<W> {
         requires frames { self.old.pages + n ≤ frames_for_pages self.old }
         ensures sound { IsSound W.slot_count self.new }
         ensures ledger { ledger W.held self.new ≡ make first n right (ledger W.held self.old) }
-        ensures slots { (s : Slot) → infos self.new.owners (Seat.Slot s) ≡ infos self.old.owners (Seat.Slot s) }
+        ensures slots { (s : SlotNumber) → infos self.new.owners (Seat.Slot s) ≡ infos self.old.owners (Seat.Slot s) }
         ensures rest { ChangesPagesAlone self.old self.new }
     {
         for i in 0..n {
@@ -85,8 +85,9 @@ impl<W: SwapStore> Memory<W> {
         }
     }
 
-    // Makes one page in a free frame; where it was the last one, another page goes out.
-    fn make_page(&mut self, at: Place, right: Right) -> Result<(), Failed>
+    // Makes one page in a free frame; where it was the last one, another page goes out, to a slot that
+    // is searched for from `next` on.
+    fn make_page(&mut self, at: Place, right: Right, next: &mut Slot) -> Result<(), Failed>
         requires sound { IsSound W.slot_count self.old }
         requires usable { IsUsable self.old }
         requires place { is_user_place (processes self.old) at ≡ true }
@@ -98,13 +99,15 @@ impl<W: SwapStore> Memory<W> {
         ensures cause { OnErr result (Rose (W.faults (store_of self.old)) (W.faults (store_of self.new))) }
     {
         let f = self.free_frame();
+        let last = self.is_last(f);
         self.failed = true;
         self.place_page(at, right, f);
-        self.make_room(f)
+        self.make_room(f, last, next)
     }
 
-    // Makes the pages of a free run for which pages may have to go out. On Failed its first pages are
-    // made.
+    // Makes the pages of a free run for which pages may have to go out; the searches for each frame and
+    // slot go on from the last. Where pages have come in order, the first slot that was never used
+    // is the first free one. On Failed the first pages of the run are made.
     fn make_crowded(&mut self, first: Place, n: u32, right: Right) -> Result<(), Failed>
         requires sound { IsSound W.slot_count self.old }
         requires usable { IsUsable self.old }
@@ -115,12 +118,13 @@ impl<W: SwapStore> Memory<W> {
         ensures failed { OnErr result (has_failed self.new ≡ true) }
         ensures cause { OnErr result (Rose (W.faults (store_of self.old)) (W.faults (store_of self.new))) }
     {
+        let mut next = Slot(self.pages.saturating_sub(self.page_frames()));
         for i in 0..n {
             let at = Place {
                 pid: first.pid,
                 vpn: Vpn(first.vpn.0 + i),
             };
-            self.make_page(at, right)?;
+            self.make_page(at, right, &mut next)?;
         }
         Ok(())
     }
@@ -152,8 +156,9 @@ impl<W: SwapStore> Memory<W> {
     /// leaves the window, then with `MemoryInUse` where a place is used or no run is free, then with
     /// `OutOfMemory` past `cap`; nothing changes then. Where there are frames for all pages, none goes
     /// out, and it takes time by n and up to two passes over the frames; else other pages may go out, and
-    /// it takes up to two passes over the frames and one over the slots for each new page. `Failed`, of
-    /// the store, may leave the first pages of the run.
+    /// it takes time by n and some passes over the frames and the slots. These passes aren't made
+    /// again where the last call left one frame free and no page has gone since. `Failed`, of the
+    /// store, may leave the first pages of the run.
     pub fn make(
         &mut self,
         pid: Pid,

@@ -1,9 +1,13 @@
-use Rattle.std.proofs.Common.{◌≡◌, ap, arith, subst, ◌∙◌}
-use Rattle.phys_pages.specs.Ram.{Area, IsPlaced}
+use Rattle.std.proofs.Common.{◌≡◌, ◌*◌, ap, arith, subst, ◌∙◌}
+use Rattle.phys_pages.specs.Ram.{Area, IsPlaced, word_in}
 use Rattle.sv32_space.specs.SpelledEntries.{entry_spelled}
 use Rattle.sv32_space.specs.Tables.{is_console_entry}
-use Rattle.sv32_space.proofs.TableLemmas.{IsSeen, seen_next, seen_none}
+use Rattle.sv32_space.proofs.TableLemmas.{IsSeen, low_word, seen_next, seen_none}
 use Rattle.sv32_space.proofs.tables.any_console.Goals as goal
+
+pub returns-then-below-clause-none : goal.returns-then-below-clause-none
+returns-then-below-clause-none c = λ a k placed none low. low_word a (word_in c.args.table.now (4 * k)) placed
+    (omega (arith, c.all_bits-below.ensures k low, c.if-below.true))
 
 pub loop-i-init : goal.loop-i-init
 loop-i-init c = λ a placed. seen_none a c.args.table.now

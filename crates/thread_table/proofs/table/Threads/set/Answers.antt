@@ -1,10 +1,8 @@
-use Rattle.std.proofs.Common.{◌≡◌, Some, length, subst, sym, arith}
-use Rattle.xk_base.specs.Tables.Circle.{thread_ids}
-use Rattle.thread_table.specs.ThreadMap.{thread_map}
+use Rattle.std.proofs.Common.{◌≡◌, Some, length, ◌∙◌, arith}
+use Rattle.xk_base.specs.Tables.Circle.{IsPid, IsTid, thread_ids}
 use Rattle.thread_table.specs.Shown.{threads_of}
-use Rattle.thread_table.specs.TidSets.{AreMarked}
-use Rattle.thread_table.proofs.MarkLemmas.{marked_put}
-use Rattle.thread_table.proofs.PlaceLemmas.{thread_map_valid, thread_map_write}
+use Rattle.thread_table.proofs.MarkLemmas.{written_marked}
+use Rattle.thread_table.proofs.PlaceLemmas.{id_bounds, thread_map_valid, thread_map_write}
 use Rattle.thread_table.proofs.table.Threads.set.Goals as goal
 
 pub returns-clause-after : goal.returns-clause-after
@@ -19,8 +17,10 @@ pub invariant_of-self-clause-marked : goal.invariant_of-self-clause-marked
 unfolding threads_of
 invariant_of-self-clause-marked c =
     let t = c.args.self.now in
+    let sets : length t.ready.items ≡ t.procs = omega arith in
     let size : length t.by_place.items ≡ thread_ids t.procs = omega arith in
-    subst (AreMarked t.there.items)
-    (sym (thread_map_write t.procs t.by_place.items c.args.id c.place_of.result (Some c.args.changed) c.place_of.ensures size
-    (thread_map_valid t.procs t.by_place.items c.args.id c.requires)))
-    (marked_put t.there.items (thread_map t.procs t.by_place.items) c.args.id c.args.changed t.marked c.requires)
+    let bounds : (IsPid t.procs c.args.id.pid.0) × (IsTid c.args.id.tid.0) =
+    id_bounds t.procs c.args.id (thread_map_valid t.procs t.by_place.items c.args.id c.requires) in
+    written_marked t.procs t.ready.items t.by_place.items c.args.id bounds.0 bounds.1 sets t.marked c.row_of-row.result c.row_of-row.ensures
+    c.index.result.now c.with_if.result c.index.ensures c.is_ready.result c.with_if.ensures c.place_of.result (Some c.args.changed) c.place_of.ensures size
+    (λ ready. c.is_ready.ensures ∙ ready)

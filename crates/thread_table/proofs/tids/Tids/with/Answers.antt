@@ -1,5 +1,5 @@
-use Rattle.thread_table.proofs.TidLemmas.{with_bit}
+use Rattle.thread_table.proofs.TidLemmas.{with_is}
 use Rattle.thread_table.proofs.tids.Tids.with.Goals as goal
 
 pub returns : goal.returns
-returns c = λ other. with_bit c.args.self.0 c.args.tid.0 other c.requires
+returns c = with_is c.args.self c.args.tid.0 c.requires

@@ -1,4 +1,4 @@
-use Rattle.std.proofs.Common.{rules, refl, sym, ap, ◌∙◌}
+use Rattle.std.proofs.Common.{rules, refl, sym, ap, ◌∙◌, arith}
 use Rattle.phys_pages.specs.Owners.{infos}
 use Rattle.phys_pages.specs.declared.infos.Seat.TheVariants.{Slot}
 use Rattle.vm_memory.proofs.Changing.ConsoleStepLemmas.{console_gone_step}
@@ -22,10 +22,11 @@ returns-in-Nothing-clause-ledger g c = nothing_gone g.W.SwapStore c.args.self.no
 pub returns-in-Page : goal.returns-in-Page
 returns-in-Page g c =
     let step = gone_step g.W.SwapStore c.args.self.now c.requires.sound c.args.at c.set_entry.new.ram c.set.new.self
-    c.in-Page.field-0 c.in-Page.seat
+    c.hand_left-self.result c.in-Page.field-0 c.in-Page.seat
     (page_entry (entries (processes c.args.self.now) c.args.self.now.ram c.args.at) c.in-Page.field-0 c.in-Page.seat (sym c.owned.ensures ∙ c.in-Page.is))
     (record { entries = c.set_entry.ensures.entries; pages = c.set_entry.ensures.pages; made = c.set_entry.ensures.made; area = c.set_entry.ensures.area })
-    c.set.ensures.infos c.set.ensures.extent in
+    c.set.ensures.infos c.set.ensures.extent
+    (λ over. c.hand_left-self.ensures.anew (omega arith) (omega (arith, over, c.page_frames-frames.ensures))) in
     record {
       sound = step.sound;
       ledger = step.ledger;

@@ -13,7 +13,7 @@ give_run-requires-clause-free g c = free_there g.W.SwapStore c.args.self.now c.r
 pub returns : goal.returns
 returns g c =
     let step = given g.W.SwapStore c.args.self.now c.requires.sound
-    c.give_run.new.ram c.give_run.new.owners c.args.self.now.pages c.give_run.ensures.agrees c.give_run.ensures.keeps
+    c.give_run.new.ram c.give_run.new.owners c.args.self.now.pages c.args.self.now.hand c.give_run.ensures.agrees c.give_run.ensures.keeps
     c.args.from c.args.n c.args.to c.give_run.ensures.step
-    (can_give (processes c.args.self.now) (ledger g.W.SwapStore.held c.args.self.now) c.args.from c.args.n c.args.to c.requires.arrival c.requires.may) refl in
+    (can_give (processes c.args.self.now) (ledger g.W.SwapStore.held c.args.self.now) c.args.from c.args.n c.args.to c.requires.arrival c.requires.may) refl refl in
     record { ledger = step.ledger; keeps = step.keeps }

@@ -16,10 +16,10 @@ lend_run-requires-clause-unlent g c = unlent_there g.W.SwapStore c.args.self.now
 pub returns : goal.returns
 returns g c =
     let step = lent g.W.SwapStore c.args.self.now c.requires.sound
-    c.lend_run.new.ram c.lend_run.new.owners c.args.self.now.pages c.lend_run.ensures.agrees c.lend_run.ensures.keeps
+    c.lend_run.new.ram c.lend_run.new.owners c.args.self.now.pages c.args.self.now.hand c.lend_run.ensures.agrees c.lend_run.ensures.keeps
     c.args.from c.args.n c.args.to c.args.kind c.args.number c.lend_run.ensures.step
     (can_lend (processes c.args.self.now) (ledger g.W.SwapStore.held c.args.self.now) c.args.from c.args.n c.args.to c.requires.arrival
-    c.args.kind c.args.number c.requires.may c.requires.fresh) refl in
+    c.args.kind c.args.number c.requires.may c.requires.fresh) refl refl in
     record {
       loan = c.lend_run.ensures.loan;
       ledger = step.ledger;

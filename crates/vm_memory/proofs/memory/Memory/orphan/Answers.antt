@@ -8,8 +8,8 @@ orphan_run-requires-clause-stands g c = stands_there g.W.SwapStore c.args.self.n
 pub returns : goal.returns
 returns g c =
     let step = orphaned g.W.SwapStore c.args.self.now c.requires.sound
-    c.orphan_run.new.ram c.orphan_run.new.owners c.args.self.now.pages c.orphan_run.ensures.agrees c.orphan_run.ensures.keeps
-    c.args.loan.number c.orphan_run.ensures.step refl in
+    c.orphan_run.new.ram c.orphan_run.new.owners c.args.self.now.pages c.args.self.now.hand c.orphan_run.ensures.agrees c.orphan_run.ensures.keeps
+    c.args.loan.number c.orphan_run.ensures.step refl refl in
     record {
       loan = c.orphan_run.ensures.loan;
       ledger = step.ledger;

@@ -11,9 +11,9 @@ pass_run-requires-clause-free g c = free_there g.W.SwapStore c.args.self.now c.r
 pub returns : goal.returns
 returns g c =
     let step = passed g.W.SwapStore c.args.self.now c.requires.sound
-    c.pass_run.new.ram c.pass_run.new.owners c.args.self.now.pages c.pass_run.ensures.agrees c.pass_run.ensures.keeps
+    c.pass_run.new.ram c.pass_run.new.owners c.args.self.now.pages c.args.self.now.hand c.pass_run.ensures.agrees c.pass_run.ensures.keeps
     c.args.loan c.args.to c.pass_run.ensures.step
-    (record { stands = c.requires.stands; lent = c.requires.lent; free = c.requires.arrival.free; lies = c.requires.arrival.lies }) refl in
+    (record { stands = c.requires.stands; lent = c.requires.lent; free = c.requires.arrival.free; lies = c.requires.arrival.lies }) refl refl in
     record {
       loan = c.pass_run.ensures.loan;
       ledger = step.ledger;

@@ -14,7 +14,7 @@ use Rattle.vm_memory.proofs.memory.Memory.place_crowded.Goals as goal
 
 pub place_in-requires-clause-sound : goal.place_in-requires-clause-sound
 place_in-requires-clause-sound g c =
-    let marked = unmoved g.W.SwapStore c.args.self.now c.requires.sound true c.args.self.now.hand (λ usable. absurd cc) in
+    let marked = unmoved g.W.SwapStore c.args.self.now c.requires.sound true c.args.self.now.hand (λ usable. absurd cc) c.requires.sound.last in
     marked.sound
 
 pub place_in-requires-clause-free : goal.place_in-requires-clause-free
@@ -22,6 +22,9 @@ place_in-requires-clause-free g c = ap (λ l. is_free (processes c.args.self.now
 
 pub place_in-requires-clause-left : goal.place_in-requires-clause-left
 place_in-requires-clause-left g c = λ usable. absurd cc
+
+pub place_in-requires-clause-hand : goal.place_in-requires-clause-hand
+place_in-requires-clause-hand g c = λ over. c.free_frame-f.ensures.hand
 
 pub unreachable-requires : goal.unreachable-requires
 unreachable-requires g c = slot_left g.W.SwapStore.slot_count c.place_in.new.self c.place_in.ensures.sound

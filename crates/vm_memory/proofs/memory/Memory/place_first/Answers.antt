@@ -10,6 +10,9 @@ pub place_in-requires-clause-frame : goal.place_in-requires-clause-frame
 place_in-requires-clause-frame g c = next_frame g.W.SwapStore.slot_count c.args.self.now c.requires.sound (21 * c.args.self.now.procs + c.args.self.now.pages) refl
     c.requires.order (omega (arith, c.if-self-page_frames.true, c.page_frames.ensures))
 
+pub place_in-requires-clause-hand : goal.place_in-requires-clause-hand
+place_in-requires-clause-hand g c = λ over. absurd (omega (arith, over, c.if-self-page_frames.true, c.page_frames.ensures))
+
 pub returns-then-self-page_frames-clause-placed : goal.returns-then-self-page_frames-clause-placed
 returns-then-self-page_frames-clause-placed g c =
     placed_near g.W.SwapStore c.args.self.now c.place_in.new.self

@@ -21,7 +21,7 @@ returns g c =
     let step = placed_step g.W.SwapStore c.args.self.now c.requires.sound c.args.at c.clear.new.ram c.args.f c.requires.frame
     c.clear.ensures.pages c.clear.ensures.area c.set_entry.new.ram c.set.new.self c.args.right c.requires.place
     (free_entry g.W.SwapStore c.args.self.now c.requires.sound c.args.at c.requires.place c.requires.free)
-    c.requires.room c.requires.left
+    c.requires.room c.requires.left c.requires.hand
     (record { entries = c.set_entry.ensures.entries; pages = c.set_entry.ensures.pages; made = c.set_entry.ensures.made; area = c.set_entry.ensures.area })
     c.set.ensures.infos c.set.ensures.extent in
     record { sound = step.sound; ledger = step.ledger; owners = c.set.ensures.infos; pages = search rules; rest = record { size = search rules; store = refl; failed = refl; slots = λ s free. ap (λ I. I (Slot s)) c.set.ensures.infos ∙ free } }

@@ -4,12 +4,16 @@ use Rattle.phys_pages.specs.Owners.{Extent, extent, infos}
 use Rattle.phys_pages.specs.declared.infos.Seat.TheVariants.{Frame}
 use Rattle.vm_memory.specs.Bytes.{is_known, none_out, used_slots}
 use Rattle.vm_memory.specs.Memory.{ledger}
+use Rattle.vm_memory.proofs.Changing.LastFrameLemmas.{last_out, last_stayed}
 use Rattle.vm_memory.proofs.Changing.ShiftedLemmas.{goes_out, left_free, found_room, kept_seat, moved_in, one_out, over_splits, stays_near, still_as_many, still_none, still_whole}
 use Rattle.vm_memory.proofs.memory.Memory.put_out.Goals as goal
 
 pub returns-in_err-evict-clause-moves : goal.returns-in_err-evict-clause-moves
 returns-in_err-evict-clause-moves g c = moved_in g.W.SwapStore c.args.self.now c.requires.sound c.evict.new.ram c.evict.new.owners c.evict.new.store c.args.self.now.failed c.args.self.now.hand
     c.evict.ensures.agrees c.evict.ensures.sizes c.evict.ensures.rights c.evict.ensures.whole c.evict.ensures.store (λ usable. absurd (false≢true (sym usable ∙ c.requires.under_way)))
+    (λ seats. last_stayed c.args.self.now (record c.args.self.now { ram = c.evict.new.ram; owners = c.evict.new.owners; store = c.evict.new.store })
+    (record { hand = refl; table = c.evict.ensures.sizes.extent; area = c.evict.ensures.sizes.area }) (omega arith)
+    c.in_err-evict.ensures.err.infos c.requires.sound.last)
 
 pub returns-in_err-evict-clause-none : goal.returns-in_err-evict-clause-none
 returns-in_err-evict-clause-none g c = still_none g.W.SwapStore c.args.self.now c.requires.sound c.evict.new.ram c.evict.new.owners c.evict.new.store c.args.self.now.failed c.args.self.now.hand
@@ -33,6 +37,16 @@ returns-clause-moves g c = moved_in g.W.SwapStore c.args.self.now c.requires.sou
     c.evict.ensures.agrees c.evict.ensures.sizes c.evict.ensures.rights c.evict.ensures.whole c.evict.ensures.store
     (λ usable. found_room (extent c.evict.new.owners) (infos c.evict.new.owners) c.victim-f.result (kept_seat (extent c.args.self.now.owners) (extent c.evict.new.owners) c.evict.ensures.sizes.extent (Frame c.victim-f.result) c.victim-f.ensures.within)
     (left_free c.args.self.now c.evict.new.ram c.evict.new.owners c.victim-f.result c.args.to c.in_ok-evict.ensures.ok))
+    (λ seats. last_out g.W.SwapStore.slot_count c.args.self.now (record c.args.self.now {
+      ram = c.evict.new.ram;
+      owners = c.evict.new.owners;
+      store = c.evict.new.store;
+      hand = c.victim-f.result.0 + 1;
+      failed = false;
+    }) c.requires.sound c.evict.ensures.sizes.extent c.evict.ensures.sizes.area c.requires.full refl
+    (one_out c.args.self.now c.evict.new.ram c.evict.new.owners c.victim-f.result c.args.to c.in_ok-evict.ensures.ok
+    (ap (λ (t : Extent). t.slots) c.evict.ensures.sizes.extent) c.requires.slot c.requires.free
+    (c.requires.full c.victim-f.result.0 c.victim-f.ensures.within.0 c.victim-f.ensures.within.1)) seats)
 
 pub returns-clause-none : goal.returns-clause-none
 returns-clause-none g c = λ none. goes_out c.args.self.now c.evict.new.ram c.evict.new.owners c.victim-f.result c.args.to c.in_ok-evict.ensures.ok
