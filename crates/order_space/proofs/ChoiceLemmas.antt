@@ -1,12 +1,11 @@
 -- What is among the choices at a point may be made there.
-use Rattle.std.proofs.Common.{◌≡◌, ◌<◌, ◌⊎◌, inl, inr, ℕ, Bool, true, false, List, [], length, Option, Some, None, is_some, IsSome, refl, sym, ap, subst, ◌∙◌, arith}
+use Rattle.std.proofs.Common.{◌≡◌, ◌<◌, ◌⊎◌, inl, inr, ℕ, Bool, true, false, List, [], length, Option, Some, None, is_some, IsSome, refl, sym, subst, ◌∙◌, arith}
 use Rattle.std.specs.Prelude.{All, get_or, map, if◌then◌else◌}
 use Rattle.std.specs.List.{Contains}
 use Rattle.std.specs.Option.{option_and_then, option_map}
 use Rattle.std.proofs.lemmas.List.{get_or-map, length-map}
 use Rattle.std.proofs.lemmas.List.Elements.{All-get_or, Contains-append_cases}
 use Rattle.std.proofs.lemmas.Option.{get_or_from_slice_get, slice_get-get_or}
-use Rattle.machine_model.specs.State.Machine.{Machine}
 use Rattle.machine_model.specs.State.Order.{ready_at}
 use Rattle.machine_model.specs.Stepping.Step.{Recorded}
 use Rattle.node_laws.specs.declared.moves.Move.TheVariants.{Once}
@@ -18,7 +17,6 @@ use Rattle.order_choices.specs.Choosing.{choices_at, comes_at, events_at, turns_
 use Rattle.order_space.specs.Quests.{IsChoice}
 use Rattle.xk_base.specs.declared.ids.ThreadId.{ThreadId}
 use Rattle.xk_base.specs.Tables.Circle.{id_at, is_thread_id, listed_ids}
-use Rattle.xk_base.specs.Tables.Counting.{listed_below}
 use Rattle.xk_base.proofs.CircleLemmas.{listed_ids-passes}
 use Rattle.xk_base.proofs.CountingLemmas.{listed_below-passes}
 

@@ -6,7 +6,7 @@ use Rattle.std.proofs.Math.Seq.{take-suc}
 use Rattle.std.proofs.lemmas.List.{map-append}
 use Rattle.machine_model.specs.State.Machine.{Machine}
 use Rattle.node_keys.specs.Keys.{IsToldOf, came_byte, came_list, has_bound}
-use Rattle.node_laws.specs.Moves.{Asked, Point}
+use Rattle.node_laws.specs.Moves.{Asked}
 use Rattle.order_choices.specs.Asking.{bound_of, came_of}
 use Rattle.suspend_image.specs.Spelling.{machine_bytes}
 use Rattle.suspend_image.specs.StateBytes.{saved_bytes, saved_parts}

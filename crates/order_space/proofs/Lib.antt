@@ -3,7 +3,7 @@ mod ChoiceLemmas
 mod EdgeLemmas
 mod KeyLemmas
 mod OrderLemmas
-mod QuestLemmas
+pub mod QuestLemmas
 mod RunLemmas
 mod SpaceLemmas
 mod StandLemmas

@@ -1,5 +1,5 @@
 -- Where an order leads: to a state of a history, and to a node whose edges and note are told.
-use Rattle.std.proofs.Common.{◌≡◌, ◌≤◌, ℕ, true, List, Some, ap, arith, refl, sym, subst, ◌∙◌}
+use Rattle.std.proofs.Common.{◌≡◌, List, Some, ap, arith, refl, sym, subst, ◌∙◌}
 use Rattle.machine_history.proofs.Histories.MomentLemmas.{history_matched}
 use Rattle.machine_history.proofs.Histories.ReservedLemmas.{history_reserved}
 use Rattle.machine_history.specs.History.{History, history}

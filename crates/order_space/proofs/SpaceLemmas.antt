@@ -1,5 +1,5 @@
 -- What a quest tells of a node is so, and what a search of it says.
-use Rattle.std.proofs.Common.{◌≡◌, ◌+◌, ◌∙◌, ℕ, List, [], length, Some, Result, Ok, Err, IfOk, All, refl, sym, ap, subst}
+use Rattle.std.proofs.Common.{◌≡◌, ◌+◌, ℕ, List, [], length, Some, Result, Ok, Err, IfOk, All, refl, sym, subst}
 use Rattle.std.proofs.lemmas.Option.{same_Some}
 use Rattle.boot_plan.specs.Lawful.{CanStart, IsLawfulPlan}
 use Rattle.node_laws.proofs.Moving.SearchLemmas.{orders_are_told, told_are_orders}

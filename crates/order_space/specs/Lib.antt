@@ -1,3 +1,4 @@
 pub mod Booted
 pub mod Found
 pub mod Quests
+pub mod Rows

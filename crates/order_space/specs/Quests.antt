@@ -2,7 +2,6 @@
 use Rattle.std.specs.List.{Contains}
 use Rattle.std.specs.Prelude.{◌≡◌, ℕ, false, List, Option, Some}
 use Rattle.event_player.specs.History.{History, run_of}
-use Rattle.machine_model.specs.State.Machine.{Machine}
 use Rattle.node_keys.specs.Keys.{key_of}
 use Rattle.node_laws.specs.declared.moves.Move.{Move}
 use Rattle.node_laws.specs.Moves.{Asked, Point, bytes_of, leads_by}

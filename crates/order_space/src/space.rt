@@ -1,7 +1,5 @@
 //! A quest is a space.
 
-ghost use Rattle.std.specs.Prelude.{◌≡◌};
-
 use crate::quest::{OrderFault, Quest};
 use node_laws::{Move, Note};
 use state_search::{Followed, Space, Unanswered};

@@ -11,6 +11,7 @@ ghost use Rattle.xk_kernel.specs.State.{machine_of};
 ghost use Rattle.node_laws.specs.Moves.{Point};
 ghost use Rattle.order_choices.specs.Choosing.{IsSeen, IsStand};
 ghost use Rattle.order_space.specs.Quests.{Arrives, IsPath, searching_of};
+ghost use Rattle.order_space.specs.Rows.{IsRead};
 
 use crate::quest::{OrderFault, Quest, no_memory};
 use crate::runs::Run;
@@ -41,6 +42,7 @@ impl Quest {
             room_for m.processes m.capacity ≤ self.old.sheet.room }
         ensures rows { IfOk result (λ state. (file : List ℕ)
             × (machine_in file state ≡ machine_of ⟦<SureStore as SwapStore>⟧.held kernel.old)) }
+        ensures read { IfOk result IsRead }
         ensures few { IfOk result (λ state. state.n ≤ PROCESS_LIMIT) }
         ensures subject { self.new.subject ≡ self.old.subject }
         ensures sound { IsSound ⟦<SureStore as SwapStore>⟧ kernel.new }
@@ -59,6 +61,7 @@ impl Quest {
         requires path { IsPath (searching_of self.old.subject) order.now }
         ensures stands { let q = searching_of self.old.subject in
             (p : Point) → Arrives q order.now p → IfOk result (λ stand. IsStand p stand.state stand.trail) }
+        ensures read { IfOk result (λ stand. IsRead stand.state) }
         ensures few { IfOk result (λ stand. stand.state.n ≤ PROCESS_LIMIT) }
         ensures came { IfOk result (λ stand. length stand.trail.came.items ≡ length self.old.subject.orders.once.items) }
         ensures subject { self.new.subject ≡ self.old.subject }

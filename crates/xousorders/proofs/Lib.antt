@@ -1,2 +1,5 @@
+mod CallLemmas
 mod EndingLemmas
 mod FileLemmas
+mod LineLemmas
+mod RowLemmas

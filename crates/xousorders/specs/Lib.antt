@@ -1,4 +1,7 @@
+pub mod Asked
+pub mod Calls
 pub mod Endings
 pub mod Files
 pub mod Lines
 pub mod Searched
+pub mod Statuses

@@ -1,9 +1,12 @@
 -- The lines of what a search found.
-use Rattle.std.specs.Prelude.{ℕ, ◌==◌, Bool, true, false, List, [], ◌++◌, codes, decimal, filter, if◌then◌else◌, length}
+use Rattle.std.specs.Prelude.{ℕ, zero, suc, ◌+◌, ◌==◌, Bool, true, false, List, [], ◌++◌, codes, decimal, filter, if◌then◌else◌, length, slice_get}
+use Rattle.std.specs.Option.{option_map_or}
 use Rattle.node_laws.specs.declared.moves.Move.{Move}
 use Rattle.node_laws.specs.declared.moves.Move.TheVariants.{Once, Slice}
 use Rattle.state_search.specs.declared.found.Extent.{Extent}
 use Rattle.state_search.specs.declared.found.Extent.TheVariants.{Cut, Whole}
+use Rattle.xousorders.specs.Endings.{looks_at}
+use Rattle.xousorders.specs.declared.endings.Endings.{Endings}
 
 -- a number with its noun
 abbrev pub counted : ℕ → List ℕ → List ℕ
@@ -34,3 +37,21 @@ ending_counts nodes order = codes "; " ++ (counted nodes (codes "node") ++ (code
 -- an ending that looks so, of so many nodes, with the order to the first of them
 abbrev pub ending_line : ℕ → List ℕ → ℕ → List Move → List ℕ
 ending_line number seen nodes order = ending_head number seen ++ ending_counts nodes order
+
+-- ---- all endings
+
+-- the line of the ending at a place: numbers begin with 1, and its nodes are those that are told to look like it
+abbrev pub line_at : Endings → ℕ → List ℕ
+line_at endings place =
+    option_map_or (λ ending. ending_line (place + 1) ending.seen.items (looks_at endings.looks.items place) ending.order.items)
+    (slice_get endings.list.items place) []
+
+-- the lines of the first n endings
+unfoldable pub lines_below : ℕ → Endings → List ℕ
+lines_below zero endings = []
+lines_below (suc n) endings = lines_below n endings ++ line_at endings n
+
+-- the lines of all endings, and of how many there are
+abbrev pub endings_text : Endings → List ℕ
+endings_text endings =
+    lines_below (length endings.list.items) endings ++ (counted (length endings.list.items) (codes "ending") ++ codes "\n")

@@ -1,11 +1,11 @@
 //! What is told of a search.
 
-ghost use Rattle.std.specs.Prelude.{◌≡◌, ◌++◌, decimal, OnOk};
-ghost use Rattle.xousorders.specs.Lines.{counted, ending_counts, ending_head, ending_line, extent_line, slices_in};
+ghost use Rattle.std.specs.Prelude.{◌≡◌, ◌++◌, OnOk};
+ghost use Rattle.xousorders.specs.Lines.{counted, ending_counts, ending_head, ending_line, endings_text, extent_line, slices_in};
 
 use crate::endings::{Ending, Endings, count_looks};
-use crate::seen::{put, put_number};
 use node_laws::Move;
+use seen_text::{put, put_number};
 use state_search::{Cut, Extent};
 use std::alloc::AllocError;
 
@@ -87,10 +87,12 @@ fn put_ending(
 }
 
 /// The lines of the endings, and of how many there are.
-pub fn put_endings(text: &mut Vec<u8>, endings: &Endings) -> Result<(), AllocError> {
+pub fn put_endings(text: &mut Vec<u8>, endings: &Endings) -> Result<(), AllocError>
+    ensures { OnOk result (text.new.items ≡ text.old.items ++ endings_text endings.now) }
+{
     for place in 0..endings.list.len() {
         let nodes = count_looks(&endings.looks, place);
-        let number = (place as u64).saturating_add(1);
+        let number = place as u64 + 1;
         put_ending(text, number, &endings.list[place], nodes)?;
     }
     put_counted(text, endings.list.len() as u64, b"ending")?;

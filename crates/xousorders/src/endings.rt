@@ -1,16 +1,17 @@
 //! The endings of a search: those that look alike are one.
 
-ghost use Rattle.std.specs.Prelude.{◌≡◌, ◌<◌, ◌+◌, IfSome, IfOk, OnOk, Some, length, slice_get};
+ghost use Rattle.std.specs.Prelude.{◌≡◌, ◌<◌, ◌+◌, IfErr, IfSome, IfOk, OnOk, None, Some, length, slice_get};
 ghost use Rattle.node_laws.specs.Searches.{IsSound};
 ghost use Rattle.node_laws.specs.declared.moves.Note.TheVariants.{Ending as IsEnd};
-ghost use Rattle.order_space.specs.Found.{telling_of};
+ghost use Rattle.order_space.specs.Found.{TellsOrders, telling_of};
 ghost use Rattle.order_space.specs.Quests.{searching_of};
-ghost use Rattle.xousorders.specs.Endings.{Adds, AreEndings, Lists};
+ghost use Rattle.xousorders.specs.Endings.{Adds, AreEndings, IsAt, Lists, NoneIs, looks_at};
+ghost use Rattle.xousorders.specs.Statuses.{IsStopped};
 
-use crate::seen::put_seen;
 use crate::status::{Status, stopped};
 use node_laws::{Move, Note};
 use order_space::{Quest, Stand};
+use seen_text::put_seen;
 use state_search::{Found, Unanswered, path_to};
 use std::alloc::{AllocError, Global};
 
@@ -38,7 +39,8 @@ pub struct Endings {
 
 /// The place of the ending that looks so.
 fn place_of(list: &[Ending], seen: &[u8]) -> Option<usize>
-    ensures { IfSome result (λ place. place < length list.now) }
+    ensures place { IfSome result (λ place. IsAt list.now place seen.now) }
+    ensures none { result ≡ None → NoneIs list.now seen.now }
 {
     for place in 0..list.len() {
         if list[place].seen.as_slice() == seen {
@@ -55,8 +57,8 @@ fn place_for(
     seen: Vec<u8>,
     order: Vec<Move>,
 ) -> Result<usize, AllocError>
-    ensures among { IfOk result (λ place. place < length list.new.items) }
-    ensures lists { OnOk result (Lists first order.items list.old.items list.new.items) }
+    ensures alike { IfOk result (λ place. IsAt list.new.items place seen.items) }
+    ensures lists { OnOk result (Lists first order.items seen.items list.old.items list.new.items) }
 {
     match place_of(list, &seen) {
         Some(place) => Ok(place),
@@ -75,7 +77,7 @@ fn add(
     seen: Vec<u8>,
     order: Vec<Move>,
 ) -> Result<(), AllocError>
-    ensures { OnOk result (Adds node order.items endings.old endings.new) }
+    ensures { OnOk result (Adds node order.items seen.items endings.old endings.new) }
 {
     let ending = place_for(&mut endings.list, node, seen, order)?;
     endings.looks.push(Look { node, ending })?;
@@ -91,12 +93,15 @@ fn see(
     endings: &mut Endings,
 ) -> Result<(), Status>
     requires sound { let q = searching_of quest.old.subject in IsSound (telling_of q found.now.edges.items found.now.notes.items) }
+    requires told { let q = searching_of quest.old.subject in
+        TellsOrders (telling_of q found.now.edges.items found.now.notes.items) }
     requires node { node < length found.now.notes.items }
     requires ends { slice_get found.now.notes.items node ≡ Some IsEnd }
     ensures adds { let q = searching_of quest.old.subject in
         let t = telling_of q found.now.edges.items found.now.notes.items in
         OnOk result (AreEndings t node endings.old → AreEndings t (node + 1) endings.new) }
     ensures subject { quest.new.subject ≡ quest.old.subject }
+    ensures stopped { IfErr result IsStopped }
 {
     let order = path_to(alloc, &found.edges, node)?;
     let Stand { state, trail } = match quest.stand(&order) {
@@ -119,11 +124,14 @@ fn pass(
     endings: &mut Endings,
 ) -> Result<(), Status>
     requires sound { let q = searching_of quest.old.subject in IsSound (telling_of q found.now.edges.items found.now.notes.items) }
+    requires told { let q = searching_of quest.old.subject in
+        TellsOrders (telling_of q found.now.edges.items found.now.notes.items) }
     requires node { node < length found.now.notes.items }
     ensures adds { let q = searching_of quest.old.subject in
         let t = telling_of q found.now.edges.items found.now.notes.items in
         OnOk result (AreEndings t node endings.old → AreEndings t (node + 1) endings.new) }
     ensures subject { quest.new.subject ≡ quest.old.subject }
+    ensures stopped { IfErr result IsStopped }
 {
     match found.notes[node] {
         Note::Inner => Ok(()),
@@ -138,10 +146,13 @@ pub fn endings_of(
     found: &Found<Move, Note>,
 ) -> Result<Endings, Status>
     requires sound { let q = searching_of quest.old.subject in IsSound (telling_of q found.now.edges.items found.now.notes.items) }
+    requires told { let q = searching_of quest.old.subject in
+        TellsOrders (telling_of q found.now.edges.items found.now.notes.items) }
     ensures all { let q = searching_of quest.old.subject in
         let t = telling_of q found.now.edges.items found.now.notes.items in
         IfOk result (AreEndings t (length t.notes)) }
     ensures subject { quest.new.subject ≡ quest.old.subject }
+    ensures stopped { IfErr result IsStopped }
 {
     let mut endings = Endings {
         list: Vec::new(alloc),
@@ -154,6 +165,8 @@ pub fn endings_of(
 }
 
 /// How many nodes look like the ending at this place.
-pub fn count_looks(looks: &[Look], place: usize) -> u64 {
+pub fn count_looks(looks: &[Look], place: usize) -> u64
+    ensures { result ≡ looks_at looks.now place }
+{
     looks.iter().filter(|look| look.ending == place).count() as u64
 }

@@ -1,8 +1,9 @@
 //! Orders are written as event files.
 
-ghost use Rattle.std.specs.Prelude.{◌≡◌, ◌++◌, IfOk, OnOk, slice_get};
+ghost use Rattle.std.specs.Prelude.{◌≡◌, ◌++◌, IfErr, IfOk, OnOk, slice_get};
 ghost use Rattle.node_laws.specs.Moves.{Asked, events_of as events_in, events_of_move};
 ghost use Rattle.xousorders.specs.Files.{order_file, with_feed};
+ghost use Rattle.xousorders.specs.Statuses.{IsUnfiled};
 
 use crate::endings::Ending;
 use crate::status::Status;
@@ -87,7 +88,9 @@ pub fn write_files<R: Files>(
     before: &[u8],
     once: &[Event],
     endings: &[Ending],
-) -> Result<(), Status> {
+) -> Result<(), Status>
+    ensures { IfErr result IsUnfiled }
+{
     let mut number = 0u64;
     for ending in endings {
         number = number.saturating_add(1);

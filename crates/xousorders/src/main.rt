@@ -7,7 +7,6 @@ mod files;
 mod image;
 mod notes;
 mod run;
-mod seen;
 mod status;
 mod watching;
 mod words;

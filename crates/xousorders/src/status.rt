@@ -1,5 +1,9 @@
 //! How the program ends.
 
+ghost use Rattle.std.specs.Prelude.{◌≡◌, length};
+ghost use Rattle.xousorders.specs.Statuses.{IsStopped, is_several, status_of};
+
+use crate::endings::Endings;
 use kernel_args::ArgFault;
 use order_space::OrderFault;
 use std::alloc::AllocError;
@@ -46,15 +50,32 @@ impl Status {
 }
 
 impl From<AllocError> for Status {
+    ghost use Rattle.std.specs.Prelude.{◌≡◌};
+    ghost use Rattle.xousorders.specs.declared.status.Status.TheVariants.{NoMemory};
+
+    ghost from_gives = { λ _ e. e ≡ NoMemory };
+
     fn from(_error: AllocError) -> Status {
         Status::NoMemory
     }
 }
 
 /// How the program ends where orders aren't searched on.
-pub fn stopped(fault: OrderFault) -> Status {
+pub fn stopped(fault: OrderFault) -> Status
+    ensures { IsStopped result }
+{
     match fault {
         OrderFault::Steps | OrderFault::Timer => Status::StepLimit(STEP_LIMIT),
         OrderFault::Line(line) => Status::EventFault(line),
     }
+}
+
+/// How the program ends where so much was told; `one` asks for one ending at most.
+pub fn ended(one: bool, endings: &Endings) -> Status
+    ensures { result ≡ status_of (is_several one (length endings.now.list.items)) }
+{
+    if one && endings.list.len() > 1 {
+        return Status::Several;
+    }
+    Status::Done
 }

@@ -1,6 +1,4 @@
-use Rattle.std.proofs.Common.{◌≡◌, ◌∙◌, List, ℕ, Some, ap, is_some, refl, subst}
-use Rattle.event_player.specs.declared.ending.Ending.{Ending}
-use Rattle.event_player.specs.Gathering.{put}
+use Rattle.std.proofs.Common.{◌∙◌, ap, is_some, refl}
 use Rattle.order_space.proofs.BeforeLemmas.{played_before}
 use Rattle.order_space.proofs.before.play_before.Goals as goal
 

@@ -1,15 +1,26 @@
-use Rattle.std.proofs.Common.{◌≡◌, ◌+◌, ◌∙◌, arith, length, subst, sym}
+use Rattle.std.proofs.Common.{◌≡◌, ◌+◌, ◌∙◌, arith, length, refl, subst, sym}
 use Rattle.node_laws.specs.Searches.{IsSound}
 use Rattle.order_space.specs.declared.subject.Subject.{Subject}
-use Rattle.order_space.specs.Found.{telling_of}
+use Rattle.order_space.specs.Found.{TellsOrders, telling_of}
 use Rattle.order_space.specs.Quests.{searching_of}
 use Rattle.xousorders.specs.Endings.{AreEndings}
+use Rattle.xousorders.proofs.EndingLemmas.{no_endings}
 use Rattle.xousorders.proofs.endings.endings_of.Goals as goal
+
+pub loop-node-init : goal.loop-node-init
+loop-node-init c =
+    let t = telling_of (searching_of c.args.quest.now.subject) c.args.found.now.edges.items c.args.found.now.notes.items in
+    record { subject = refl; told = no_endings t _ c.new.ensures.items c.new-2.ensures.items }
 
 pub pass-requires-clause-sound : goal.pass-requires-clause-sound
 pass-requires-clause-sound c =
     subst (λ (s : Subject). IsSound (telling_of (searching_of s) c.args.found.now.edges.items c.args.found.now.notes.items))
     (sym c.loop-node.invariant.subject) c.requires.sound
+
+pub pass-requires-clause-told : goal.pass-requires-clause-told
+pass-requires-clause-told c =
+    subst (λ (s : Subject). TellsOrders (telling_of (searching_of s) c.args.found.now.edges.items c.args.found.now.notes.items))
+    (sym c.loop-node.invariant.subject) c.requires.told
 
 pub loop-node-preserved : goal.loop-node-preserved
 loop-node-preserved c =

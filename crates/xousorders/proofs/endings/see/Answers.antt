@@ -1,11 +1,13 @@
 use Rattle.std.proofs.Common.{◌≡◌, ◌≤◌, ◌+◌, ◌∙◌, ap, arith, length, List, subst, sym}
 use Rattle.node_laws.specs.declared.moves.Move.{Move}
+use Rattle.node_laws.specs.Moves.{leads_by}
 use Rattle.order_space.specs.Found.{telling_of}
 use Rattle.order_space.specs.Quests.{first_node, next_node, searching_of}
 use Rattle.state_search.specs.declared.found.Edge.{Edge}
 use Rattle.state_search.specs.Graph.{node_by}
 use Rattle.state_search.specs.Paths.{IsTree, labels_to}
-use Rattle.xousorders.proofs.EndingLemmas.{node_told}
+use Rattle.xousorders.proofs.EndingLemmas.{node_told, shown_there}
+use Rattle.xousorders.proofs.RowLemmas.{tellable}
 use Rattle.xousorders.proofs.endings.see.Goals as goal
 
 pub path_to-requires-clause-tree : goal.path_to-requires-clause-tree
@@ -30,8 +32,20 @@ stand-requires c =
       );
     }
 
+pub put_seen-requires : goal.put_seen-requires
+put_seen-requires c =
+    let read = c.in-Ok.ensures.read in
+    tellable _ read.file read.spelled read.matched
+
 pub returns-clause-adds : goal.returns-clause-adds
 returns-clause-adds c =
-    node_told (telling_of (searching_of c.args.quest.now.subject) c.args.found.now.edges.items c.args.found.now.notes.items) c.args.node _
-    c.args.endings.now _ c.requires.ends
-    (c.in_ok-order.ensures ∙ ap (λ (es : List (Edge Move)). labels_to es c.args.node) c.deref.ensures.value) c.in_ok-add.ensures
+    let q = searching_of c.args.quest.now.subject in
+    let t = telling_of q c.args.found.now.edges.items c.args.found.now.notes.items in
+    let few : length c.args.found.now.notes.items ≤ length c.args.found.now.edges.items + 1 = c.requires.sound.few in
+    let told = c.requires.told c.args.node (omega (arith, few)) in
+    let labels = c.in_ok-order.ensures ∙ ap (λ (es : List (Edge Move)). labels_to es c.args.node) c.deref.ensures.value in
+    let stand = c.in-Ok.ensures.stands told.last (ap (leads_by q.asked q.start) (c.deref-2.ensures.value ∙ labels) ∙ told.leads) in
+    node_told t c.args.node _ _ c.args.endings.now _ c.requires.ends labels
+    (shown_there t c.args.node told _ _ c.new-seen.ensures.items
+    (c.in_ok-put_seen.ensures told.last stand.file stand.rows (sym stand.console ∙ sym c.deref-3.ensures.value)))
+    c.in_ok-add.ensures

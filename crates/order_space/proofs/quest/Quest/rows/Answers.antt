@@ -10,3 +10,10 @@ returns-in-Ok-read_state-clause-rows c = (
       c.requires.within c.requires.reserved c.in-Ok.ensures.saveable
       (c.as_slice.ensures ∙ ap (λ (sheet : SheetBytes). sheet.bytes) (c.in-Ok.ensures.saved refl)) c.in-Ok-read_state.ensures.spelled,
 )
+
+pub returns-in-Ok-read_state-clause-read : goal.returns-in-Ok-read_state-clause-read
+returns-in-Ok-read_state-clause-read c = record {
+  file = c.as_slice.result.now;
+  spelled = c.in-Ok-read_state.ensures.spelled;
+  matched = c.in-Ok-read_state.ensures.matched;
+}

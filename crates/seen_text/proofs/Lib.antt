@@ -1,0 +1,6 @@
+mod AboutLemmas
+mod BusyLemmas
+mod KeptLemmas
+mod NameLemmas
+mod RowLemmas
+mod TextLemmas

@@ -1,0 +1,96 @@
+-- What is asked for, of the files that the words name.
+use Rattle.std.specs.Prelude.{◌≡◌, ◌<◌, ◌⊎◌, ℕ, List, [], length, Option, Some, None}
+use Rattle.boot_plan.specs.FirstPages.{plan_of}
+use Rattle.boot_plan.specs.ImageFault.{IsImageFault}
+use Rattle.boot_plan.specs.declared.plans.BootPlan.{BootPlan}
+use Rattle.host_io.specs.Reading.{IsFile}
+use Rattle.kernel_args.specs.Image.{Spells}
+use Rattle.kernel_args.specs.declared.args.Args.{Args}
+use Rattle.kernel_args.specs.declared.faults.ArgFault.{ArgFault}
+use Rattle.order_space.specs.declared.subject.Subject.{Subject}
+use Rattle.xk_base.specs.declared.events.Event.{Event}
+use Rattle.xk_base.specs.declared.limits.TheConstants.{EVENT_FILE_LIMIT, STEP_LIMIT}
+use Rattle.xousorders.specs.declared.status.Status.{Status}
+use Rattle.xousorders.specs.declared.status.Status.TheVariants.{EventFault, ImageFault, NoMemory, ReadFault, StepLimit}
+
+-- the files of the host by their names, where they are told
+abbrev pub HostFiles : Type 0
+HostFiles = Option (List ℕ → Option (List ℕ))
+
+-- The names of the image and of the event file that is played before, how many steps a slice has at most, and the events that may come,
+-- each once. Names are bytes of UTF-8.
+pub record Asking : Type 0 where
+  pub image : List ℕ
+  pub before : Option (List ℕ)
+  pub quantum : ℕ
+  pub once : List Event
+
+abbrev pub asking_of : List ℕ → Option (List ℕ) → ℕ → List Event → Asking
+asking_of image before quantum once = record { image = image; before = before; quantum = quantum; once = once }
+
+-- ---- files that are read
+
+-- the image has no fault, and these are its arguments
+pub record IsSoundImage (image : List ℕ) (args : Args) : Type 0 where
+  pub spelled : Spells image args
+  pub no_fault : IsImageFault image None None
+
+-- .. and this is its plan
+pub record IsPlanOf (image : List ℕ) (plan : BootPlan) : Type 0 where
+  pub args : Args
+  pub sound : IsSoundImage image args
+  pub planned : plan ≡ plan_of args None
+
+-- the bytes of the event file that is played before, or none where there is none
+abbrev pub IsBefore : HostFiles → Option (List ℕ) → List ℕ → Type 0
+IsBefore files None bytes = bytes ≡ []
+IsBefore files (Some name) bytes = IsFile files name bytes
+
+-- what is searched is what is asked for, without a bound of steps
+pub record IsAsked (files : HostFiles) (asking : Asking) (s : Subject) : Type 0 where
+  pub image : IsFile files asking.image s.file.items
+  pub planned : IsPlanOf s.file.items s.plan
+  pub before : IsBefore files asking.before s.before.items
+  pub quantum : s.orders.quantum ≡ asking.quantum
+  pub bound : s.orders.bound ≡ None
+  pub once : s.orders.once.items ≡ asking.once
+
+-- ---- files that aren't
+
+-- the image of that name has this first fault
+abbrev pub HasFault : HostFiles → List ℕ → ArgFault → Type 0
+HasFault files name fault = (image : List ℕ) × IsFile files name image × IsImageFault image None (Some fault)
+
+-- there is an event file that is played before, and it is too long for its events
+abbrev pub IsTooLong : HostFiles → Option (List ℕ) → Type 0
+IsTooLong files None = ⊥
+IsTooLong files (Some name) = (bytes : List ℕ) × (EVENT_FILE_LIMIT < length bytes) × IsFile files name bytes
+
+-- the bytes aren't an image without a fault, or there is no memory
+abbrev pub RefusesBytes : List ℕ → Status → Type 0
+RefusesBytes image (ImageFault fault) = IsImageFault image None (Some fault)
+RefusesBytes image NoMemory = Unit {0}
+RefusesBytes image status = ⊥
+
+-- the image isn't read: it is too long for one, the host failed, or there is no memory
+abbrev pub RefusesImage : HostFiles → List ℕ → Type 0 → Status → Type 0
+RefusesImage files name host_rose (ImageFault fault) = HasFault files name fault
+RefusesImage files name host_rose ReadFault = host_rose
+RefusesImage files name host_rose NoMemory = Unit {0}
+RefusesImage files name host_rose status = ⊥
+
+-- the events before aren't read: the host failed, they are too long, or there is no memory
+abbrev pub RefusesEvents : HostFiles → Option (List ℕ) → Type 0 → Status → Type 0
+RefusesEvents files name host_rose ReadFault = host_rose ⊎ IsTooLong files name
+RefusesEvents files name host_rose NoMemory = Unit {0}
+RefusesEvents files name host_rose status = ⊥
+
+-- Why nothing is told, by the status: the image has this first fault; a file wasn't read, as the host failed or the events before are too
+-- long; these have a bad line; a run would have too many steps; there is no memory.
+abbrev pub Stops : HostFiles → Asking → Type 0 → Status → Type 0
+Stops files asking host_rose (ImageFault fault) = HasFault files asking.image fault
+Stops files asking host_rose ReadFault = host_rose ⊎ IsTooLong files asking.before
+Stops files asking host_rose (EventFault line) = Unit {0}
+Stops files asking host_rose (StepLimit limit) = limit ≡ STEP_LIMIT
+Stops files asking host_rose NoMemory = Unit {0}
+Stops files asking host_rose status = ⊥
