@@ -56,6 +56,21 @@ pairs_of_word w first second third fourth one two three four =
     let f : third % 16 ≡ w / 256 % 16 = omega arith in
     let g : fourth / 16 ≡ w / 16 % 16 = omega arith in
     let h : fourth % 16 ≡ w / 1 % 16 = omega arith in
-    rw (first_of_pair first (omega arith), second_of_pair first (omega arith), first_of_pair second (omega arith),
-    second_of_pair second (omega arith), first_of_pair third (omega arith), second_of_pair third (omega arith),
-    first_of_pair fourth (omega arith), second_of_pair fourth (omega arith), a, b, c, d, e, f, g, h) refl
+    rw (
+      first_of_pair first (omega arith),
+      second_of_pair first (omega arith),
+      first_of_pair second (omega arith),
+      second_of_pair second (omega arith),
+      first_of_pair third (omega arith),
+      second_of_pair third (omega arith),
+      first_of_pair fourth (omega arith),
+      second_of_pair fourth (omega arith),
+      a,
+      b,
+      c,
+      d,
+      e,
+      f,
+      g,
+      h,
+    ) refl
