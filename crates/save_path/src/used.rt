@@ -1,35 +1,18 @@
 //! Where something stands, found by the words of the page tables: of most tables no word is used.
 
-ghost use Rattle.std.specs.Prelude.{◌≡◌, ℕ, ◌<◌, ◌≤◌, ◌*◌, length};
+ghost use Rattle.std.specs.Prelude.{◌≡◌, ℕ, ◌<◌, ◌≤◌, ◌*◌};
 ghost use Rattle.ledger_model.specs.Places.{place_at, places_of_process};
-ghost use Rattle.phys_pages.specs.Ram.{word_in};
 ghost use Rattle.vm_memory.specs.Memory.{ledger, processes};
 ghost use Rattle.vm_memory.specs.Sound.{IsSound};
 ghost use Rattle.save_path.specs.Pages.{HasNoPage};
 
 use crate::places::place_at;
-use sv32_space::{entry_word, table_of};
+use sv32_space::{table_of, used_entry};
 use vm_memory::Memory;
 use xk_ports::SwapStore;
 
 /// How many entries a table has.
 const ENTRIES: u32 = 1024;
-
-// The first entry of a table from this one on that isn't 0; 1,024 where there is none.
-fn used_entry(table: &[u8], from: u32) -> u32
-    requires len { length table.now ≡ 4096 }
-    requires from { from ≤ 1024 }
-    ensures low { from ≤ result }
-    ensures high { result ≤ 1024 }
-    ensures free { (k : ℕ) → from ≤ k → k < result → word_in table.now (4 * k) ≡ 0 }
-{
-    'entries: for index in from..ENTRIES {
-        if entry_word(table, index) != 0 {
-            return index;
-        }
-    }
-    ENTRIES
-}
 
 /// The first place from this number on at which something may stand, of those below the end, or the end.
 pub(crate) fn next_used<W: SwapStore>(mem: &Memory<W>, from: u32, end: u32) -> u32

@@ -22,5 +22,5 @@ pub use entries::{entry_of, kind_of};
 pub use place_entries::{entry_at, entry_said, set_entry};
 pub use sides::{Entry, EntryKind, Side};
 pub use spaces::{leaf, new_space, root_of, set_leaf};
-pub use tables::{entry_word, maps_console, table_of};
+pub use tables::{entry_word, maps_console, table_of, used_entry};
 pub use walking::{Walked, walk};

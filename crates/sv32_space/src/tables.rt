@@ -39,6 +39,22 @@ pub fn entry_word(table: &[u8], index: u32) -> u32
     LittleEndian::read_u32(&table[4 * index as usize..])
 }
 
+/// The first entry of a table from this one on that isn't 0; 1,024 where there is none.
+pub fn used_entry(table: &[u8], from: u32) -> u32
+    requires len { length table.now ≡ 4096 }
+    requires from { from ≤ 1024 }
+    ensures low { from ≤ result }
+    ensures high { result ≤ 1024 }
+    ensures free { (k : ℕ) → from ≤ k → k < result → word_in table.now (4 * k) ≡ 0 }
+{
+    'entries: for index in from..1024 {
+        if entry_word(table, index) != 0 {
+            return index;
+        }
+    }
+    1024
+}
+
 // Whether a word spells the console's entry.
 #[tactic(auto, using(crate::proofs::TableLemmas::console_words))]
 fn is_console(word: u32) -> bool

@@ -1,6 +1,6 @@
 use Rattle.std.proofs.Common.{◌≡◌, ◌*◌, ◌<◌, ◌≤◌, ℕ}
 use Rattle.phys_pages.specs.Ram.{word_in}
-use Rattle.save_path.proofs.used.used_entry.Given as goal
+use Rattle.sv32_space.proofs.tables.used_entry.Given as goal
 
 -- the entries so far are 0
 abbrev pub invariant-entries : goal.invariant-entries

@@ -1,7 +1,7 @@
 use Rattle.std.proofs.Common.{◌≡◌, ◌*◌, ℕ, inl, inr, subst, arith}
 use Rattle.std.proofs.lemmas.Bool.{cases_lt}
 use Rattle.phys_pages.specs.Ram.{word_in}
-use Rattle.save_path.proofs.used.used_entry.Goals as goal
+use Rattle.sv32_space.proofs.tables.used_entry.Goals as goal
 
 pub entries-preserved : goal.entries-preserved
 entries-preserved c = record {
