@@ -6,6 +6,7 @@ pub mod ConsoleStepLemmas
 pub mod CountLemmas
 pub mod CrowdedLemmas
 pub mod ForgettingLemmas
+pub mod FreePlaceLemmas
 pub mod HereLemmas
 pub mod LastFrameLemmas
 pub mod LoanCallLemmas

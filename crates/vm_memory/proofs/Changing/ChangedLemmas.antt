@@ -18,7 +18,7 @@ use Rattle.sv32_space.specs.Entries.{Entries}
 use Rattle.sv32_space.specs.EntryLedger.{SeatBytes, ledger_of}
 use Rattle.sv32_space.specs.Spaces.{IsMade}
 use Rattle.sv32_space.specs.SpelledEntries.{entries}
-use Rattle.sv32_space.specs.Tie.{Held, agrees, bytes_at}
+use Rattle.sv32_space.specs.Tie.{agrees, bytes_at}
 use Rattle.sv32_space.proofs.Ledgers.SeatByteLemmas.{used_bytes}
 use Rattle.vm_memory.specs.declared.memory.Memory.{Memory}
 use Rattle.vm_memory.specs.Bytes.{used_frames, used_slots}

@@ -1,6 +1,6 @@
 -- What the calls on the console write, as steps of the memory.
 use Rattle.xk_ports.specs.declared.store.SwapStore.{Ghosts as SwapStore}
-use Rattle.std.proofs.Common.{◌≡◌, ℕ, Bool, true, false, not, ◌||◌, Option, Some, None, refl, sym, ap, ◌∙◌}
+use Rattle.std.proofs.Common.{◌≡◌, Bool, true, false, not, ◌||◌, Option, Some, None, refl, sym, ap, ◌∙◌}
 use Rattle.std.specs.Option.{option_and_then}
 use Rattle.std.proofs.lemmas.Bool.{and_parts, both_ways}
 use Rattle.xk_base.specs.declared.ids.Place.{Place}
@@ -23,7 +23,7 @@ use Rattle.sv32_space.specs.declared.sides.Entry.TheVariants.{Free, At, OnConsol
 use Rattle.sv32_space.specs.Entries.{Entries}
 use Rattle.sv32_space.specs.EntryLedger.{SeatBytes, ledger_of, page_of_entry}
 use Rattle.sv32_space.specs.SpelledEntries.{entries}
-use Rattle.sv32_space.specs.Tie.{Held, bytes_at}
+use Rattle.sv32_space.specs.Tie.{bytes_at}
 use Rattle.sv32_space.proofs.Ledgers.EntryLedgerLemmas.{home_at}
 use Rattle.sv32_space.proofs.Agreeing.PageAgreementLemmas.{map_console_agrees, unmap_console_agrees, reduce_console_agrees}
 use Rattle.sv32_space.proofs.Ledgers.PageLedgerLemmas.{map_console_ledger, unmap_console_ledger, reduce_console_ledger}

@@ -14,9 +14,9 @@ use Rattle.xk_base.specs.declared.windows.Window.TheVariants.{Image, Heap, Messa
 use Rattle.ledger_model.specs.Conditions.{is_lent}
 use Rattle.ledger_model.specs.LeastRun.{window_pages, window_place}
 use Rattle.ledger_model.specs.Ledger.{Ledger, Page, PageLoan, loan_at, loan_of}
-use Rattle.ledger_model.specs.Places.{in_run, is_user_place, place_after}
+use Rattle.ledger_model.specs.Places.{in_run, is_user_place}
 use Rattle.ledger_model.specs.Reach.{lender_of, role_at}
-use Rattle.ledger_model.specs.RunTests.{any_on_loan, is_on_loan}
+use Rattle.ledger_model.specs.RunTests.{is_on_loan}
 use Rattle.ledger_model.specs.Steps.{forget, remove}
 use Rattle.ledger_model.proofs.LedgerLemmas.{cases_Option, lender_of-loan, loan_at-page, role_at-free, role_at-home, same_ledger}
 use Rattle.ledger_model.proofs.Stepping.RemovingLemmas.{remove_home, remove_orphan}
@@ -25,12 +25,11 @@ use Rattle.phys_pages.specs.Owners.{infos}
 use Rattle.sv32_space.specs.declared.sides.Entry.{Entry}
 use Rattle.sv32_space.specs.EntryLedger.{ledger_of, page_of_entry}
 use Rattle.sv32_space.specs.SpelledEntries.{entries}
-use Rattle.sv32_space.specs.Tie.{Held, bytes_at}
+use Rattle.sv32_space.specs.Tie.{bytes_at}
 use Rattle.vm_memory.specs.declared.memory.Memory.{Memory}
 use Rattle.vm_memory.specs.Memory.{ledger, processes}
 use Rattle.vm_memory.specs.Sound.{IsSound}
 use Rattle.vm_memory.specs.Pages.Removing.{HasNoLoan}
-use Rattle.ledger_model.proofs.Runs.RunTestLemmas.{none_passes}
 
 -- the places of a process in a window
 abbrev pub in_place : Pid → Window → Place → Bool
@@ -38,7 +37,7 @@ in_place pid w p = in_run (window_place pid w 0) (window_pages w) p
 
 -- ---- no page of the process is on loan
 
-not_lent_there : (procs : ℕ) (l : Ledger) (pid : Pid) (p : Place) → HasNoLoan l pid → p.pid.0 ≡ pid.0 → is_on_loan (role_at procs l p) ≡ false
+pub not_lent_there : (procs : ℕ) (l : Ledger) (pid : Pid) (p : Place) → HasNoLoan l pid → p.pid.0 ≡ pid.0 → is_on_loan (role_at procs l p) ≡ false
 not_lent_there procs l pid p none mine = elim (cases_Option (l.home p)) [
   | inr page ↦ ap is_on_loan (role_at-home procs l p page.0 page.1) ∙ (sym (ap is_lent page.1) ∙ none.lender p mine)
   | inl home ↦ elim (cases_Option (lender_of procs l p)) [
@@ -48,11 +47,6 @@ not_lent_there procs l pid p none mine = elim (cases_Option (l.home p)) [
         absurd (none.holder lent.0 held.0 held.1 (ap (λ (q : Place). q.pid.0) held.2 ∙ mine))
   ]
 ]
-
-pub window_not_lent : (procs : ℕ) (l : Ledger) (pid : Pid) (first : Place) (n : ℕ) → first.pid.0 ≡ pid.0 → HasNoLoan l pid → any_on_loan procs l first n ≡ false
-unfolding any_on_loan
-window_not_lent procs l pid first n mine none = none_passes (λ p. is_on_loan (role_at procs l p)) first n
-    (λ i low. not_lent_there procs l pid (place_after first i) none mine)
 
 -- .. nor is one after some have gone
 pub no_loan_after : (l m : Ledger) (pid : Pid) (places : Place → Bool) → m ≡ remove places l → HasNoLoan l pid → HasNoLoan m pid

@@ -37,7 +37,7 @@ use Rattle.sv32_space.specs.EntryLedger.{SeatBytes, is_free_entry, ledger_of, pa
 use Rattle.sv32_space.specs.PageChanges.{with_bytes, with_entry, with_info}
 use Rattle.sv32_space.specs.Spaces.{IsMade}
 use Rattle.sv32_space.specs.SpelledEntries.{IsEntry, entries}
-use Rattle.sv32_space.specs.Tie.{Held, bytes_at}
+use Rattle.sv32_space.specs.Tie.{bytes_at}
 use Rattle.sv32_space.proofs.EntryLemmas.{entries_after_page}
 use Rattle.sv32_space.proofs.RunLemmas.{remove_nothing}
 use Rattle.sv32_space.proofs.SpaceLemmas.{made_after_page}

@@ -1,9 +1,9 @@
 //! Pages are removed and reduced.
 
 ghost use Rattle.xk_base.specs.Tables.Circle.{is_pid};
-ghost use Rattle.std.specs.Prelude.{OnErr, ◌≡◌, ℕ, ◌+◌, ◌≤◌, true, false};
+ghost use Rattle.std.specs.Prelude.{None, OnErr, ◌≡◌, ℕ, ◌+◌, ◌-◌, ◌%◌, ◌<◌, ◌≤◌, true, false};
 ghost use Rattle.ledger_model.specs.LeastRun.{window_pages, window_place};
-ghost use Rattle.ledger_model.specs.Places.{in_run, place_after};
+ghost use Rattle.ledger_model.specs.Places.{in_run, is_user_place, place_after};
 ghost use Rattle.ledger_model.specs.Reach.{role_at};
 ghost use Rattle.ledger_model.specs.RunTests.{any_lacks, any_on_loan, asks_more, is_on_loan};
 ghost use Rattle.ledger_model.specs.Steps.{forget, reduce, remove};
@@ -16,6 +16,7 @@ ghost use Rattle.vm_memory.specs.Tie.{IsTied};
 
 use crate::memory::Memory;
 use crate::memory::run_tests::RunTest;
+use sv32_space::{table_of, used_entry};
 use xk_base::{Pid, Place, Right, Vpn, Window, XousError};
 use xk_ports::SwapStore;
 
@@ -179,9 +180,69 @@ impl<W: SwapStore> Memory<W> {
         Ok(())
     }
 
+    // How many places from this one on have no page, of those in its table: their words are 0.
+    fn free_places(&self, at: Place) -> u32
+        requires sound { IsSound W.slot_count self.now }
+        requires lie { (i : ℕ) → at.vpn.0 % 1024 + i < 1024 → is_user_place (processes self.now) (place_after at i) ≡ true }
+        ensures table { at.vpn.0 % 1024 + result ≤ 1024 }
+        ensures free { (i : ℕ) → i < result → (ledger W.held self.now).home (place_after at i) ≡ None }
+    {
+        let entry = at.vpn.0 % 1024;
+        used_entry(table_of(&self.ram, at), entry) - entry
+    }
+
+    // Removes the next page of a run that ends with a table, in which so many places are done, and answers
+    // how many are done then: those without a page, up to the end of their table, and the place behind them.
+    fn drop_next(&mut self, first: Place, n: u32, done: u32) -> u32
+        requires sound { IsSound W.slot_count self.old }
+        requires lie { (i : ℕ) → i < n → is_user_place (processes self.old) (place_after first i) ≡ true }
+        requires whole { (first.vpn.0 + n) % 1024 ≡ 0 }
+        requires left { done < n }
+        requires no_loan { HasNoLoan (ledger W.held self.old) first.pid }
+        ensures further { done < result }
+        ensures within { result ≤ n }
+        ensures sound { IsSound W.slot_count self.new }
+        ensures ledger { ledger W.held self.new
+            ≡ remove (in_run (place_after first done) (result - done)) (ledger W.held self.old) }
+        ensures rest { ChangesPagesAlone self.old self.new }
+        ensures seats { TakesNoSeat self.old self.new }
+    {
+        let next = Place {
+            pid: first.pid,
+            vpn: Vpn(first.vpn.0 + done),
+        };
+        let free = self.free_places(next);
+        if done + free == n {
+            return n;
+        }
+        self.drop_page(Place {
+            pid: first.pid,
+            vpn: Vpn(next.vpn.0 + free),
+        });
+        done + free + 1
+    }
+
+    // Removes the pages of a run that ends with a table. It goes by the words of the tables.
+    fn drop_used(&mut self, first: Place, n: u32)
+        requires sound { IsSound W.slot_count self.old }
+        requires lie { (i : ℕ) → i < n → is_user_place (processes self.old) (place_after first i) ≡ true }
+        requires whole { (first.vpn.0 + n) % 1024 ≡ 0 }
+        requires no_loan { HasNoLoan (ledger W.held self.old) first.pid }
+        ensures sound { IsSound W.slot_count self.new }
+        ensures ledger { ledger W.held self.new ≡ remove (in_run first n) (ledger W.held self.old) }
+        ensures rest { ChangesPagesAlone self.old self.new }
+        ensures seats { TakesNoSeat self.old self.new }
+    {
+        let mut done = 0;
+        'places: while done < n {
+            done = self.drop_next(first, n, done);
+        }
+    }
+
     // Removes the pages of a process in one window.
     fn drop_window(&mut self, pid: Pid, window: Window)
         requires sound { IsSound W.slot_count self.old }
+        requires process { is_pid (processes self.old) pid.0 ≡ true }
         requires no_loan { HasNoLoan (ledger W.held self.old) pid }
         ensures sound { IsSound W.slot_count self.new }
         ensures ledger { ledger W.held self.new ≡ remove (in_run (window_place pid window 0) (window_pages window))
@@ -194,7 +255,7 @@ impl<W: SwapStore> Memory<W> {
             pid,
             vpn: window.first(),
         };
-        self.drop_pages(first, window.last().0 + 1 - window.first().0);
+        self.drop_used(first, window.last().0 + 1 - window.first().0);
     }
 
     /// Removes all pages with a home of a process, the console too. No loan or orphan may have a
