@@ -1,12 +1,8 @@
 -- A move that is played leads where it leads.
-use Rattle.std.proofs.Common.{◌≡◌, ◌<◌, inl, inr, ℕ, Bool, true, false, List, length, Some, None, is_some, IsSome, refl, sym, ap, ◌∙◌}
-use Rattle.std.specs.Prelude.{◌&&◌, ◌==◌, nat_eq, not, set, slice_get, if◌then◌else◌}
+use Rattle.std.proofs.Common.{◌≡◌, ℕ, Bool, true, false, Some, None, is_some, IsSome, refl, sym, ap, ◌∙◌}
+use Rattle.std.specs.Prelude.{◌&&◌, ◌==◌, not, slice_get, if◌then◌else◌}
 use Rattle.std.specs.Option.{option_map}
-use Rattle.std.proofs.lemmas.Bool.{cases_eq, eq-eqb, false≢true, ne_eqb}
-use Rattle.std.proofs.lemmas.Grind.{get_or-set_at}
-use Rattle.std.proofs.lemmas.List.{get_or-set_other}
-use Rattle.order_choices.specs.Asking.{came_of}
-use Rattle.xk_base.specs.Tables.Counting.{put_at}
+use Rattle.std.proofs.lemmas.Bool.{eq-eqb, false≢true}
 use Rattle.xk_base.specs.declared.events.Event.{Event}
 use Rattle.xk_base.specs.declared.events.Event.TheVariants.{Irq as IrqEvent, Kill, Pick, Tick}
 use Rattle.xk_base.specs.declared.ids.ThreadId.{ThreadId}
@@ -64,14 +60,3 @@ module _ (asked : Asked) (p : Point) (k : ℕ) where
       some_mapped (λ done. with_come k (behind p done)) (what_comes event p.state) (sym (ap (λ o. is_some (led asked p k o)) at) ∙ h) in
       ap (led asked p k) at ∙ (ap (option_map (λ done. with_come k (behind p done))) (comes_done event p.state there)
       ∙ ap (λ (d : Recorded). Some (with_come k (behind p d))) (sym done_is))
-
--- which events came, once this one did
-pub came_set : (came : List Bool) (k : ℕ) → k < length came → (q : ℕ) → came_of (set came k true) q ≡ put_at nat_eq (came_of came) k true q
-came_set came k low q = elim (cases_eq q k) [
-  | inl same ↦
-      get_or-set_at came k q true false same low
-      ∙ sym (ap (λ (b : Bool). if b then true else came_of came q) (eq-eqb q k same))
-  | inr differ ↦
-      get_or-set_other came k q true false differ
-      ∙ sym (ap (λ (b : Bool). if b then true else came_of came q) (ne_eqb q k differ))
-]

@@ -60,7 +60,7 @@ same_slice asked p new who steps done may is =
 -- ---- events that may come
 
 -- which events came, once this one did
-came_set : (came : List Bool) (k : ℕ) → k < length came → (q : ℕ) → came_of (set came k true) q ≡ put_at nat_eq (came_of came) k true q
+pub came_set : (came : List Bool) (k : ℕ) → k < length came → (q : ℕ) → came_of (set came k true) q ≡ put_at nat_eq (came_of came) k true q
 came_set came k low q = elim (cases_eq q k) [
   | inl same ↦
       get_or-set_at came k q true false same low

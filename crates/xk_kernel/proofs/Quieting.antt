@@ -1,3 +1,4 @@
+pub mod EndLemmas
 pub mod HandLemmas
 pub mod InstructionLemmas
 pub mod OverLemmas
@@ -5,3 +6,4 @@ pub mod QuietStepLemmas
 pub mod RowLemmas
 pub mod RowOverLemmas
 pub mod TurnLemmas
+pub mod WithoutTimerLemmas

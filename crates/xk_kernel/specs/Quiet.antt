@@ -1,16 +1,17 @@
--- Quiet steps: instructions of the cursor's thread that leave no record and end no turn.
-use Rattle.std.specs.Prelude.{◌≡◌, ℕ, zero, suc, ◌+◌, ◌<◌, Bool, true, false, not, ◌&&◌, Option, Some}
+-- Quiet steps: instructions of the cursor's thread that leave no record, end no turn and go by the timer's page.
+use Rattle.std.specs.Prelude.{◌≡◌, ℕ, zero, suc, ◌+◌, ◌<◌, Bool, true, false, not, ◌&&◌, is_some, Option, Some, None}
 use Rattle.std.specs.Option.{option_map_or}
+use Rattle.machine_model.specs.Hart.Atomics.{Performed, execute_at}
 use Rattle.machine_model.specs.Hart.Instructions.{Executed, Next, Stores, StoresToConsole, StoresToTimer, CallsKernel, Traps}
 use Rattle.machine_model.specs.State.Machine.{Machine, Thread}
 use Rattle.machine_model.specs.State.Order.{ready_at}
 use Rattle.machine_model.specs.State.Threads.{put_thread}
-use Rattle.machine_model.specs.Stepping.Interrupts.{is_claim_of}
-use Rattle.machine_model.specs.Stepping.Reservations.{reservation_of}
-use Rattle.machine_model.specs.Stepping.Step.{ends_handler, ends_thread, performed, step}
+use Rattle.machine_model.specs.State.Views.{memory_of}
+use Rattle.machine_model.specs.Stepping.Reservations.{reservation_of, reserved_by}
+use Rattle.machine_model.specs.Stepping.Step.{ends_handler, ends_thread, step}
 use Rattle.machine_model.specs.Stepping.Timer.{is_due}
+use Rattle.xk_base.specs.UserMemory.{Memory, timer_at}
 use Rattle.xk_base.specs.declared.ids.ThreadId.{ThreadId}
-use Rattle.xk_base.specs.declared.limits.TheConstants.{TIMER_INTERRUPT}
 
 -- ---- one step
 
@@ -23,14 +24,27 @@ goes_on (StoresToTimer offset width value regs pc) = false
 goes_on CallsKernel = false
 goes_on (Traps cause value) = false
 
--- the step of the cursor's thread is an instruction by which it goes on so
+-- memory as a process sees it, but for the timer's page: to that it has no access
+abbrev pub without_timer : Memory → Memory
+without_timer mem = record mem {
+  may = λ access address. not (is_some (timer_at mem.timer address)) && mem.may access address;
+  timer = None;
+}
+
+-- what the instruction of the cursor's thread does over that
+abbrev pub done_without_timer : Machine → Thread → Performed
+done_without_timer m thread =
+    execute_at thread.regs thread.pc (reserved_by m.cursor m.reserved) (without_timer (memory_of m m.cursor.pid))
+
+-- The step of the cursor's thread is an instruction by which it goes on so. It needs nothing of the timer's page: without that the
+-- thread goes on as well, and so it does the same with it.
 abbrev pub thread_goes_on : Machine → Thread → Bool
 thread_goes_on m thread =
-    not (ends_thread m.cursor thread.pc) && (not (ends_handler m.cursor thread.pc) && goes_on (performed m m.cursor thread).executed)
+    not (ends_thread m.cursor thread.pc) && (not (ends_handler m.cursor thread.pc) && goes_on (done_without_timer m thread).executed)
 
--- the cursor's process hasn't the timer's page, and the timer isn't due at the end of the next step
+-- the timer isn't due at the end of the next step
 abbrev pub timer_rests : Machine → Bool
-timer_rests m = not (is_claim_of m.cursor.pid (m.claims TIMER_INTERRUPT)) && not (is_due m.compare (m.steps + 1))
+timer_rests m = not (is_due m.compare (m.steps + 1))
 
 -- The next step is quiet: the cursor's thread is Ready and goes on by it, and the timer rests.
 unfoldable pub is_quiet : Machine → Bool

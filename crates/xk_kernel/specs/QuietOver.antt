@@ -4,13 +4,11 @@ use Rattle.xk_ports.specs.declared.store.SwapStore.{Ghosts as SwapStore}
 use Rattle.std.specs.Prelude.{◌≡◌, ℕ, ◌+◌, ◌<◌, Bool, false, Option}
 use Rattle.machine_model.specs.Runs.Matched.{Matched}
 use Rattle.machine_model.specs.State.Machine.{Machine, Thread}
-use Rattle.machine_model.specs.Stepping.Interrupts.{is_claim_of}
 use Rattle.machine_model.specs.Stepping.Timer.{is_due}
 use Rattle.sv32_space.specs.Tie.{Held}
 use Rattle.vm_memory.specs.Bytes.{MeansBytes}
 use Rattle.vm_memory.specs.declared.memory.Memory.{Memory}
 use Rattle.xk_base.specs.declared.ids.ThreadId.{ThreadId}
-use Rattle.xk_base.specs.declared.limits.TheConstants.{TIMER_INTERRUPT}
 use Rattle.xk_kernel.specs.Quiet.{RunsQuietly, StepsIfQuiet, in_hand, steps_after}
 use Rattle.xk_kernel.specs.Sound.{IsWhole}
 use Rattle.xk_kernel.specs.State.{machine_of}
@@ -20,11 +18,10 @@ use Rattle.xk_kernel.specs.declared.kernel.Kernel.{Kernel}
 abbrev pub around : {W : Type 0} → Memory W → ThreadId → Kernel W → Kernel W
 around mem who k = record k { mem = mem; cursor = who }
 
--- A thread of the kernel may do quiet steps out of its table: the kernel is whole and matched, and its process hasn't the timer's page.
+-- a thread of the kernel may do quiet steps out of its table: the kernel is whole and matched
 pub record MayStep {W : Type 0} (S : SwapStore W) (k : Kernel W) : Type 0 where
   pub whole : IsWhole S k
   pub matched : Matched (machine_of S.held k)
-  pub untimed : is_claim_of k.cursor.pid ((machine_of S.held k).claims TIMER_INTERRUPT) ≡ false
 
 -- what a kernel has lent for quiet steps: its memory, and a thread out of its table, with the address that it has reserved
 pub record Lent (W : Type 0) : Type 0 where

@@ -1,14 +1,14 @@
 -- The memory of a process with the timer's page over it, where the process has claimed the timer's interrupt, is its memory as the
 -- machine has it; and what an instruction does there it does to its pages, or to the timer.
 use Rattle.std.proofs.Common.{◌≡◌, ℕ, Bool, true, false, Option, Some, None, refl, sym, ap, ◌∙◌}
-use Rattle.std.specs.Prelude.{not, ◌&&◌, is_some, if◌then◌else◌}
+use Rattle.std.specs.Prelude.{not, ◌&&◌, ◌||◌, is_some, if◌then◌else◌}
 use Rattle.std.specs.Option.{option_and_then}
 use Rattle.std.proofs.lemmas.Bool.{false≢true}
 use Rattle.std.proofs.lemmas.Option.{same_Some}
 use Rattle.machine_model.specs.Hart.Instructions.{Executed, Next, Stores, StoresToConsole, StoresToTimer, CallsKernel, Traps}
 use Rattle.machine_model.specs.Runs.Matched.{Matched}
 use Rattle.machine_model.specs.State.Machine.{Machine}
-use Rattle.machine_model.specs.State.Views.{memory_of}
+use Rattle.machine_model.specs.State.Views.{is_of_timer_page, memory_of, page_reached}
 use Rattle.machine_model.specs.Stepping.Interrupts.{is_claim_of}
 use Rattle.rv32_hart.specs.Running.{timer_left}
 use Rattle.sv32_space.specs.Tie.{Held}
@@ -20,6 +20,7 @@ use Rattle.xk_base.specs.UserMemory.{Memory as SeenMemory, Timer, compare_stored
 use Rattle.xk_base.specs.declared.ids.Pid.{Pid}
 use Rattle.xk_base.specs.declared.limits.TheConstants.{TIMER_INTERRUPT}
 use Rattle.xk_base.specs.declared.pages.Access.TheVariants.{Store}
+use Rattle.xk_kernel.specs.Quiet.{without_timer}
 use Rattle.xk_kernel.specs.State.{machine_of}
 use Rattle.xk_kernel.specs.declared.kernel.Kernel.{Kernel}
 use Rattle.xk_kernel.proofs.Memory.StoreLemmas.{StoresAllowed, StoresLawfully}
@@ -55,6 +56,29 @@ memory_seen held k pid matched = λ i. record {
   where
     is : IsMemoryOf (machine_of held k) pid (has_timer (machine_of held k) pid)
     is = view_is_memory (machine_of held k) pid (λ access address inside. page_is_apart (machine_of held k) pid access address matched inside)
+
+-- .. where the page is there exactly if the process has claimed the timer's interrupt
+pub timed_seen : {W : Type 0} (held : W → Held) (k : Kernel W) (pid : Pid) (on : Bool) → on ≡ has_timer (machine_of held k) pid
+    → Matched (machine_of held k) → memory_of (machine_of held k) pid ≡ timed_memory on (timer_now k) (user_view held k.mem pid)
+timed_seen held k pid on claimed matched =
+    memory_seen held k pid matched ∙ ap (λ b. timed_memory b (timer_now k) (user_view held k.mem pid)) (sym claimed)
+
+-- without the timer's page it is that of the pages
+reached_past : (claimed inside loads reached : Bool) (timer : Timer) → (inside ≡ true → reached ≡ false)
+    → (not (is_some (option_and_then (λ (t : Timer). if inside then Some t else None) (if claimed then Some timer else None)))
+    && ((is_some (option_and_then (λ (t : Timer). if inside then Some t else None) (if claimed then Some timer else None)) && loads) || reached)) ≡ reached
+reached_past false inside loads reached timer apart = refl
+reached_past true false loads reached timer apart = refl
+reached_past true true loads reached timer apart = sym (apart refl)
+
+pub pages_seen : {W : Type 0} (held : W → Held) (k : Kernel W) (pid : Pid) → Matched (machine_of held k)
+    → without_timer (memory_of (machine_of held k) pid) ≡ timed_memory false (timer_now k) (user_view held k.mem pid)
+unfolding machine_of memory_of seen_memory
+pages_seen held k pid matched = λ i. record (timed_memory false (timer_now k) (user_view held k.mem pid)) {
+  may = λ access address. reached_past (has_timer (machine_of held k) pid) (in_timer_page address) (is_of_timer_page access)
+      (is_some (page_reached (machine_of held k) pid access address)) (timer_now k)
+      (λ inside. ap is_some (page_is_apart (machine_of held k) pid access address matched inside)) i;
+}
 
 -- ---- what an instruction does there
 

@@ -20,14 +20,14 @@ use Rattle.rv32_hart.specs.declared.ran.Ran.TheVariants as ran
 use Rattle.thread_table.proofs.PlaceLemmas.{same_thread-self}
 use Rattle.xk_base.specs.Tables.Circle.{same_thread}
 use Rattle.xk_base.specs.Tables.Counting.{put_at}
-use Rattle.xk_base.specs.UserMemory.{Memory as SeenMemory, Timer, timer_at}
+use Rattle.xk_base.specs.UserMemory.{Memory as SeenMemory, Timer, in_timer_page, timer_at}
 use Rattle.xk_base.specs.declared.ids.Pid.{Pid}
 use Rattle.xk_base.specs.declared.ids.ThreadId.{ThreadId}
 use Rattle.xk_base.specs.declared.limits.TheConstants.{TIMER_INTERRUPT}
-use Rattle.xk_kernel.specs.Quiet.{goes_on, in_hand, is_quiet}
+use Rattle.xk_kernel.specs.Quiet.{done_without_timer, goes_on, in_hand, is_quiet, without_timer}
 use Rattle.xk_kernel.specs.Running.{machine_after}
 use Rattle.xk_kernel.proofs.Acting.ThreadLemmas.{put_there}
-use Rattle.xk_kernel.proofs.Quieting.QuietStepLemmas.{IsQuietBy, last_fails, not_quiet, quiet_parts, quiet_step_is, quiet_whole}
+use Rattle.xk_kernel.proofs.Quieting.QuietStepLemmas.{IsQuietBy, does_same, goes_with_timer, last_fails, not_quiet, quiet_parts, quiet_step_is, quiet_whole}
 use Rattle.xk_kernel.proofs.Running.RunLemmas.{GoesOn, goes_on as thread_moves, memory_left}
 
 -- ---- what the thread has
@@ -45,13 +45,28 @@ seen_with timer m pid = record {
   timer = timer;
 }
 
--- a process without the timer's page sees neither the steps nor the threads
+-- the machine's timer after so many steps
+abbrev timer_after : Machine → ℕ → Timer
+timer_after m steps = record { steps = steps; compare = m.compare }
+
+-- without the timer's page a process sees neither the steps nor the threads
 pub memory_in_hand : (m : Machine) (who : ThreadId) (t : Thread) (r : Option ℕ) (n : ℕ) (pid : Pid)
-    → is_claim_of pid (m.claims TIMER_INTERRUPT) ≡ false → memory_of (in_hand who t r n m) pid ≡ memory_of m pid
+    → without_timer (memory_of (in_hand who t r n m) pid) ≡ without_timer (memory_of m pid)
 unfolding memory_of
-memory_in_hand m who t r n pid untimed =
-    ap (λ b. seen_with (if b then Some (record { steps = n; compare = m.compare }) else None) m pid) untimed
-    ∙ sym (ap (λ b. seen_with (if b then Some (record { steps = m.steps; compare = m.compare }) else None) m pid) untimed)
+memory_in_hand m who t r n pid = by (is_claim_of pid (m.claims TIMER_INTERRUPT))
+  where
+    -- whether the timer is at an address doesn't tell the steps
+    there : (inside : Bool) → is_some (if inside then Some (timer_after m n) else None) ≡ is_some (if inside then Some (timer_after m m.steps) else None)
+    there true = refl
+    there false = refl
+
+    by : (claimed : Bool) → without_timer (seen_with (if claimed then Some (timer_after m n) else None) m pid)
+        ≡ without_timer (seen_with (if claimed then Some (timer_after m m.steps) else None) m pid)
+    by false = refl
+    by true = λ i. record (without_timer (seen_with (Some (timer_after m m.steps)) m pid)) {
+      may = λ access address. not (there (in_timer_page address) i)
+          && ((there (in_timer_page address) i && is_of_timer_page access) || is_some (page_reached m pid access address));
+    }
 
 put_twice : (m : Machine) (id : ThreadId) (t u : Option Thread) → put_at same_thread (put_at same_thread m.threads id t) id u ≡ put_at same_thread m.threads id u
 put_twice m id t u = λ i q. at q (same_thread q id) i
@@ -93,38 +108,24 @@ memory_stays pid m (Traps cause value) h e = refl
 
 -- ---- steps with a thread in hand
 
-module _ (m : Machine) (t : Thread) (ready : t.state ≡ Ready) (r : Option ℕ) (n : ℕ)
-    (untimed : is_claim_of m.cursor.pid (m.claims TIMER_INTERRUPT) ≡ false) where
+module _ (m : Machine) (t : Thread) (ready : t.state ≡ Ready) (r : Option ℕ) (n : ℕ) where
   abbrev held_machine : Machine
   held_machine = in_hand m.cursor t r n m
 
-  -- what its instruction does
+  -- what its instruction does without the timer's page
   abbrev does : Performed
-  does = execute_at t.regs t.pc r (memory_of m m.cursor.pid)
+  does = execute_at t.regs t.pc r (without_timer (memory_of m m.cursor.pid))
 
   there : held_machine.threads held_machine.cursor ≡ Some t
   there = put_there m m.cursor (Some t)
 
-  does_so : performed held_machine m.cursor t ≡ does
+  does_so : done_without_timer held_machine t ≡ does
   does_so =
-      ap (λ o. execute_at t.regs t.pc o (memory_of held_machine m.cursor.pid)) (own_reserved m.cursor r)
-      ∙ ap (execute_at t.regs t.pc r) (memory_in_hand m m.cursor t r n m.cursor.pid untimed)
+      ap (λ o. execute_at t.regs t.pc o (without_timer (memory_of held_machine m.cursor.pid))) (own_reserved m.cursor r)
+      ∙ ap (execute_at t.regs t.pc r) (memory_in_hand m m.cursor t r n m.cursor.pid)
 
   ready_now : ready_at held_machine held_machine.cursor ≡ true
   ready_now = ap (λ (o : Option Thread). option_map_or (λ (u : Thread). is_ready u.state) o false) there ∙ ap is_ready ready
-
-  pub ends_loudly : ends_thread m.cursor t.pc ≡ true → is_quiet held_machine ≡ false
-  ends_loudly e = not_quiet held_machine t there
-      (ap (λ b. not b && (not (ends_handler m.cursor t.pc) && goes_on (performed held_machine m.cursor t).executed)) e)
-
-  first_fails : (a b : Bool) → (a && (false && b)) ≡ false
-  first_fails true b = refl
-  first_fails false b = refl
-
-  pub handler_ends_loudly : ends_handler m.cursor t.pc ≡ true → is_quiet held_machine ≡ false
-  handler_ends_loudly e = not_quiet held_machine t there
-      (ap (λ b. not (ends_thread m.cursor t.pc) && (not b && goes_on (performed held_machine m.cursor t).executed)) e
-      ∙ first_fails (not (ends_thread m.cursor t.pc)) (goes_on (performed held_machine m.cursor t).executed))
 
   pub stops_loudly : goes_on does.executed ≡ false → is_quiet held_machine ≡ false
   stops_loudly e = not_quiet held_machine t there
@@ -136,7 +137,6 @@ module _ (m : Machine) (t : Thread) (ready : t.state ≡ Ready) (r : Option ℕ)
     quiet_now : IsQuietBy held_machine t
     quiet_now = record {
       ready = ready_now;
-      untimed = untimed;
       undue = undue;
       goes_past = goes_past;
       stays_in = stays_in;
@@ -164,7 +164,7 @@ module _ (m : Machine) (t : Thread) (ready : t.state ≡ Ready) (r : Option ℕ)
         })
         ∙ ap (λ (x : Machine). record x { steps = n + 1; reserved = reservation_of m.cursor does.reserved })
         (thread_moves held_machine m.cursor t does.executed next there is)
-        ∙ ap counted_as (sym does_so)
+        ∙ ap counted_as (sym (does_same held_machine t there quiet_now ∙ does_so))
         ∙ sym (ap (λ (s : Recorded). s.machine) (quiet_step_is held_machine t there quiet_now))
 
 -- ---- the thread is taken from the table
@@ -176,9 +176,9 @@ owned who m = record m { reserved = reservation_of who (reserved_by who m.reserv
 module _ (m : Machine) (t : Thread) (at : m.threads m.cursor ≡ Some t) where
   -- its instruction doesn't see what others have reserved
   abbrev quiet_with : Option ℕ → Bool
-  quiet_with r = ready_at m m.cursor && (not (is_claim_of m.cursor.pid (m.claims TIMER_INTERRUPT)) && not (is_due m.compare (m.steps + 1))
+  quiet_with r = ready_at m m.cursor && (not (is_due m.compare (m.steps + 1))
       && option_map_or (λ (u : Thread). not (ends_thread m.cursor u.pc) && (not (ends_handler m.cursor u.pc)
-      && goes_on (execute_at u.regs u.pc r (memory_of m m.cursor.pid)).executed)) (m.threads m.cursor) false)
+      && goes_on (execute_at u.regs u.pc r (without_timer (memory_of m m.cursor.pid))).executed)) (m.threads m.cursor) false)
 
   pub owned_quiet : is_quiet (owned m.cursor m) ≡ is_quiet m
   unfolding is_quiet memory_of
@@ -206,5 +206,5 @@ module _ (m : Machine) (t : Thread) (at : m.threads m.cursor ≡ Some t) where
       let k : IsQuietBy (owned m.cursor m) t = quiet_parts (owned m.cursor m) t at (owned_quiet ∙ quiet) in
       quiet_step_is (owned m.cursor m) t at k
       ∙ ap (λ (p : Performed). record { machine = record (machine_after m.cursor (owned m.cursor m) p.executed) { steps = m.steps + 1; reserved = reservation_of m.cursor p.reserved }; records = [] }) owned_does
-      ∙ ap (λ (x : Machine). record { machine = x; records = [] }) (after_owned (performed m m.cursor t).executed (m.steps + 1) (performed m m.cursor t).reserved h.goes)
+      ∙ ap (λ (x : Machine). record { machine = x; records = [] }) (after_owned (performed m m.cursor t).executed (m.steps + 1) (performed m m.cursor t).reserved (goes_with_timer m t at h))
       ∙ sym (quiet_step_is m t at h)

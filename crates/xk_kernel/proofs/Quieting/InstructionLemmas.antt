@@ -8,7 +8,6 @@ use Rattle.machine_model.specs.Hart.Instructions.{Executed, Next, Stores, Stores
 use Rattle.machine_model.specs.Runs.Matched.{Matched}
 use Rattle.machine_model.specs.State.Machine.{Machine, Ready}
 use Rattle.machine_model.specs.State.Views.{memory_of}
-use Rattle.machine_model.specs.Stepping.Interrupts.{is_claim_of}
 use Rattle.machine_model.specs.Stepping.Step.{ends_handler, ends_thread}
 use Rattle.machine_model.specs.Stepping.Timer.{is_due}
 use Rattle.rv32_atomics.specs.Performing.{Core, Performs}
@@ -28,14 +27,15 @@ use Rattle.vm_memory.specs.Using.UserView.{KeepsRest, user_content, user_view}
 use Rattle.vm_memory.specs.declared.memory.Memory.{Memory}
 use Rattle.xk_base.specs.UserMemory.{Memory as SeenMemory, Timer}
 use Rattle.xk_base.specs.declared.ids.Pid.{Pid}
-use Rattle.xk_base.specs.declared.limits.TheConstants.{TIMER_INTERRUPT}
-use Rattle.xk_kernel.specs.Quiet.{StepsIfQuiet, goes_on, in_hand}
+use Rattle.xk_kernel.specs.Quiet.{StepsIfQuiet, goes_on, in_hand, without_timer}
 use Rattle.xk_kernel.specs.Sound.{IsWhole}
 use Rattle.xk_kernel.specs.State.{machine_of}
 use Rattle.xk_kernel.specs.declared.kernel.Kernel.{Kernel}
 use Rattle.xk_kernel.proofs.Memory.MemoryPartLemmas.{with_memory}
 use Rattle.xk_kernel.proofs.Memory.StoreLemmas.{StoresLawfully, stores_lawfully}
-use Rattle.xk_kernel.proofs.Quieting.HandLemmas.{LeavesTimer, ends_loudly, goes_by, hand_is_quiet, hand_steps, handler_ends_loudly, is_next, memory_stays, stops_loudly}
+use Rattle.xk_kernel.proofs.Memory.TimerViewLemmas.{pages_seen}
+use Rattle.xk_kernel.proofs.Quieting.EndLemmas.{ends_no_handler, ends_nowhere}
+use Rattle.xk_kernel.proofs.Quieting.HandLemmas.{LeavesTimer, goes_by, hand_is_quiet, hand_steps, is_next, memory_stays, stops_loudly}
 use Rattle.xk_kernel.proofs.Running.RunLemmas.{HasRun, has_run}
 
 -- ---- what is known of it
@@ -103,10 +103,6 @@ leaves_timer mem (StoresToTimer offset width value regs pc) none so = absurd (fa
 leaves_timer mem CallsKernel none so = tt
 leaves_timer mem (Traps cause value) none so = tt
 
-no_timer : (m : Machine) (pid : Pid) → is_claim_of pid (m.claims TIMER_INTERRUPT) ≡ false → (memory_of m pid).timer ≡ None
-unfolding memory_of
-no_timer m pid untimed = ap (λ b. if b then Some (record { steps = m.steps; compare = m.compare }) else None) untimed
-
 -- what is told of the memory of a process
 abbrev pub view_of : {W : Type 0} → SwapStore W → Memory W → Pid → View
 view_of S mem pid = record {
@@ -118,7 +114,6 @@ view_of S mem pid = record {
 
 module _ {W : Type 0} (S : SwapStore W)
     (k : Kernel W) (mem : Memory W) (other : Pid) (same : other ≡ k.cursor.pid) (whole : IsWhole S k) (matched : Matched (machine_of S.held k))
-    (untimed : is_claim_of k.cursor.pid ((machine_of S.held k).claims TIMER_INTERRUPT) ≡ false)
     (rest : KeepsRest S k.cursor.pid k.mem mem) where
   abbrev m : Machine
   m = machine_of S.held k
@@ -130,15 +125,19 @@ module _ {W : Type 0} (S : SwapStore W)
   pub means_now : MeansBytes S k.mem → MeansBytesOver S k.mem mem
   means_now = means_over (is_known S k.mem) (none_out k.mem) (none_out mem) rest.none
 
-  -- what running it comes to
+  -- what the process sees without the timer's page
+  abbrev pages : SeenMemory
+  pages = without_timer (memory_of m k.cursor.pid)
+
+  -- what running it over that comes to
   abbrev pub HasDone : Core → Core → ℕ → Ran → Type 0
-  HasDone old new pc answer = HasRun S.held k mem k.timer k.cursor.pid old new pc answer
+  HasDone old new pc answer = HasRun S.held k mem k.timer k.cursor.pid pages old new pc answer
 
   pub has_done : (old new : Core) (pc : ℕ) (answer : Ran) → Performs (view_of S k.mem k.cursor.pid) (view_of S mem other) old new pc answer
       → (answer ≡ Failed → ⊥) → MeansBytes S k.mem → HasDone old new pc answer
   has_done old new pc answer performs done means =
       has_run S k mem k.cursor.pid other same whole rest (means_now means)
-      false k.timer (sym untimed) (λ _. refl) matched old new old pc answer refl performs done
+      false k.timer pages (pages_seen S.held k k.cursor.pid matched) (λ _. refl) old new old pc answer refl performs done
 
   module _ (t : TableThread) (ready : is_ready_state t.state ≡ true) (reserved : Option ℕ) (n : ℕ) where
     -- the machine with the thread in hand
@@ -149,22 +148,13 @@ module _ {W : Type 0} (S : SwapStore W)
     core = record { regs = t.regs; reserved = reserved }
 
     abbrev does : Performed
-    does = execute_at t.regs t.pc reserved (memory_of m k.cursor.pid)
+    does = execute_at t.regs t.pc reserved pages
 
     leaves : LeavesTimer does.executed
-    leaves = leaves_timer (memory_of m k.cursor.pid) does.executed (no_timer m k.cursor.pid untimed) (stores_lawfully (memory_of m k.cursor.pid) t.regs t.pc reserved)
+    leaves = leaves_timer pages does.executed refl (stores_lawfully pages t.regs t.pc reserved)
 
     state : (thread_of t).state ≡ Ready
     state = is_ready_there t.state ready
-
-    -- where the thread or its handler ends, there is no quiet step
-    pub end_is_loud : ends_thread k.cursor t.pc ≡ true → StepsIfQuiet false held_now held_now
-    unfolding machine_of
-    end_is_loud e = (ends_loudly m (thread_of t) state reserved n untimed e, refl)
-
-    pub handler_end_is_loud : ends_handler k.cursor t.pc ≡ true → StepsIfQuiet false held_now held_now
-    unfolding machine_of
-    handler_end_is_loud e = (handler_ends_loudly m (thread_of t) state reserved n untimed e, refl)
 
     module _ (new : Core) (answer : Ran) (run : HasDone core new t.pc answer) where
       -- an instruction by which the thread doesn't go on isn't done
@@ -172,17 +162,19 @@ module _ {W : Type 0} (S : SwapStore W)
       unfolding machine_of
       other_is_loud is =
           let goes : goes_on does.executed ≡ false = goes_by does.executed leaves ∙ ap is_next (sym run.answered) ∙ other_stops answer is in (
-            stops_loudly m (thread_of t) state reserved n untimed goes,
+            stops_loudly m (thread_of t) state reserved n goes,
             ap (in_hand k.cursor (thread_of t) reserved n) (run.machine ∙ memory_stays k.cursor.pid m does.executed leaves goes),
           )
 
       -- any other is the machine's quiet step, where the timer isn't due
-      pub next_is_quiet : (next : ℕ) → answer ≡ ran.Next next → is_due k.timer (n + 1) ≡ false → ends_thread k.cursor t.pc ≡ false → ends_handler k.cursor t.pc ≡ false
+      pub next_is_quiet : (next : ℕ) → answer ≡ ran.Next next → is_due k.timer (n + 1) ≡ false
           → StepsIfQuiet true held_now (in_hand k.cursor (thread_of (record { pc = next; regs = new.regs; state = t.state })) new.reserved (n + 1) left)
       unfolding machine_of
-      next_is_quiet next is undue goes_past stays_in =
-          let goes : goes_on does.executed ≡ true = goes_by does.executed leaves ∙ ap is_next (sym run.answered ∙ is) in (
-            hand_is_quiet m (thread_of t) state reserved n untimed undue goes_past stays_in goes,
+      next_is_quiet next is undue =
+          let goes : goes_on does.executed ≡ true = goes_by does.executed leaves ∙ ap is_next (sym run.answered ∙ is) in
+          let goes_past : ends_thread k.cursor t.pc ≡ false = ends_nowhere m k.cursor.pid matched k.cursor t.regs t.pc reserved goes in
+          let stays_in : ends_handler k.cursor t.pc ≡ false = ends_no_handler m k.cursor.pid matched k.cursor t.regs t.pc reserved goes in (
+            hand_is_quiet m (thread_of t) state reserved n undue goes_past stays_in goes,
             (λ i. in_hand k.cursor (record (thread_of t) { regs = run.registers i; pc = next }) (run.reserved i) (n + 1) left)
-                ∙ hand_steps m (thread_of t) state reserved n untimed undue goes_past stays_in goes next (inl (sym run.answered ∙ is)) left run.machine,
+                ∙ hand_steps m (thread_of t) state reserved n undue goes_past stays_in goes next (inl (sym run.answered ∙ is)) left run.machine,
           )

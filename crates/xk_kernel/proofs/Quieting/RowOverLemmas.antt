@@ -64,7 +64,6 @@ module _ {W : Type 0} (S : SwapStore W) (who : ThreadId) where
     still k may = record {
       whole = whole_with S (around old.mem who k) mid.mem may.whole who.pid kept;
       matched = matched_memory S (around old.mem who k) mid.mem who may.matched kept;
-      untimed = may.untimed;
     }
 
     module _ (new : Lent W) (done : ℕ) (goes : GoesOver done old mid) where

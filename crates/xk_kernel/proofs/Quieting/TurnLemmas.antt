@@ -11,7 +11,6 @@ use Rattle.machine_model.specs.Runs.Matched.{Matched}
 use Rattle.machine_model.specs.State.Machine.{Machine, Thread}
 use Rattle.machine_model.specs.State.Order.{actor, is_ready, next_ready, ready_at}
 use Rattle.machine_model.specs.State.Threads.{change_thread, put_thread, with_registers}
-use Rattle.machine_model.specs.Stepping.Interrupts.{is_claim_of}
 use Rattle.machine_model.specs.Stepping.Reservations.{reservation_of, reserved_by}
 use Rattle.machine_model.specs.Stepping.Timer.{is_due}
 use Rattle.xk_parts.specs.Shown.{state_of, thread_of}
@@ -26,7 +25,6 @@ use Rattle.xk_base.specs.Log.{LogState}
 use Rattle.xk_base.specs.Tables.Circle.{same_thread}
 use Rattle.xk_base.specs.Tables.Counting.{put_at}
 use Rattle.xk_base.specs.declared.ids.ThreadId.{ThreadId}
-use Rattle.xk_base.specs.declared.limits.TheConstants.{TIMER_INTERRUPT}
 use Rattle.xk_kernel.specs.Quiet.{GoesQuietly, RunsQuietly, in_hand, is_quiet, thread_goes_on, timer_rests}
 use Rattle.xk_kernel.specs.Sound.{IsWhole}
 use Rattle.xk_kernel.specs.State.{as_reservation, machine_of}
@@ -52,18 +50,10 @@ module _ (m : Machine) where
   unfolding is_quiet
   unready_is_loud e = ap (λ b. b && (timer_rests m && rest_of)) e
 
-  -- its process has the timer's page
-  pub timed_is_loud : is_claim_of m.cursor.pid (m.claims TIMER_INTERRUPT) ≡ true → is_quiet m ≡ false
-  unfolding is_quiet
-  timed_is_loud e = ap (λ b. ready_at m m.cursor && ((not b && not (is_due m.compare (m.steps + 1))) && rest_of)) e ∙ right_false (ready_at m m.cursor)
-
   -- the timer is due at its end
   pub due_is_loud : is_due m.compare (m.steps + 1) ≡ true → is_quiet m ≡ false
   unfolding is_quiet
-  due_is_loud e =
-      ap (λ b. ready_at m m.cursor && ((not (is_claim_of m.cursor.pid (m.claims TIMER_INTERRUPT)) && not b) && rest_of)) e
-      ∙ ap (λ b. ready_at m m.cursor && (b && rest_of)) (right_false (not (is_claim_of m.cursor.pid (m.claims TIMER_INTERRUPT))))
-      ∙ right_false (ready_at m m.cursor)
+  due_is_loud e = ap (λ b. ready_at m m.cursor && (not b && rest_of)) e ∙ right_false (ready_at m m.cursor)
 
   -- a thread that is Ready at its turn acts
   pub ready_acts : ready_at m m.cursor ≡ true → is_some (actor m) ≡ true

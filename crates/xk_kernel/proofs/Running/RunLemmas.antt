@@ -15,7 +15,6 @@ use Rattle.machine_model.specs.Hart.Atomics.{Performed, execute_at}
 use Rattle.machine_model.specs.State.Machine.{Machine, Thread}
 use Rattle.machine_model.specs.State.Threads.{put_thread, with_registers}
 use Rattle.machine_model.specs.State.Views.{memory_of, stored, timer_set}
-use Rattle.machine_model.specs.Runs.Matched.{Matched}
 use Rattle.rv32_atomics.specs.Performing.{Core, DoesPerform, IsPerformed, LeavesRegistersUnlessDone, Performs}
 use Rattle.rv32_hart.specs.Running.{ran_of, registers_after, View, seen}
 use Rattle.rv32_hart.specs.declared.ran.Ran.{Ran}
@@ -35,7 +34,7 @@ use Rattle.xk_kernel.proofs.Memory.KnownLemmas.{means_ends}
 use Rattle.xk_kernel.proofs.Memory.MemoryPartLemmas.{memory_machine, whole_with, with_memory}
 use Rattle.xk_kernel.proofs.Memory.LedgerAfterLemmas.{ledger_after, ledger_by_bytes}
 use Rattle.xk_kernel.proofs.Memory.StoreLemmas.{StoresLawfully, stores_lawfully}
-use Rattle.xk_kernel.proofs.Memory.TimerViewLemmas.{allowed_inside, compare_after, compare_left, has_timer, memory_seen, timed_memory, timer_now}
+use Rattle.xk_kernel.proofs.Memory.TimerViewLemmas.{allowed_inside, compare_after, compare_left, timed_memory, timer_now}
 
 -- ---- the machine afterwards
 
@@ -118,12 +117,13 @@ is_performed effect byte view after old new Failed done h = absurd (done refl)
 abbrev pub with_both : {W : Type 0} → Memory W → Option ℕ → Kernel W → Kernel W
 with_both mem timer k = record k { mem = mem; timer = timer }
 
--- what running the instruction comes to, where the thread has reserved this address
-pub record HasRun {W : Type 0} (held : W → Held) (k : Kernel W) (mem : Memory W) (timer : Option ℕ) (pid : Pid) (old new : Core) (pc : ℕ) (answer : Ran) : Type 0 where
-  pub answered : answer ≡ ran_of (execute_at old.regs pc old.reserved (memory_of (machine_of held k) pid)).executed
-  pub registers : new.regs ≡ registers_after old.regs (execute_at old.regs pc old.reserved (memory_of (machine_of held k) pid)).executed
-  pub reserved : new.reserved ≡ (execute_at old.regs pc old.reserved (memory_of (machine_of held k) pid)).reserved
-  pub machine : machine_of held (with_both mem timer k) ≡ memory_left pid (machine_of held k) (execute_at old.regs pc old.reserved (memory_of (machine_of held k) pid)).executed
+-- what running the instruction over this memory comes to, where the thread has reserved this address
+pub record HasRun {W : Type 0} (held : W → Held) (k : Kernel W) (mem : Memory W) (timer : Option ℕ) (pid : Pid) (over : SeenMemory) (old new : Core) (pc : ℕ)
+    (answer : Ran) : Type 0 where
+  pub answered : answer ≡ ran_of (execute_at old.regs pc old.reserved over).executed
+  pub registers : new.regs ≡ registers_after old.regs (execute_at old.regs pc old.reserved over).executed
+  pub reserved : new.reserved ≡ (execute_at old.regs pc old.reserved over).reserved
+  pub machine : machine_of held (with_both mem timer k) ≡ memory_left pid (machine_of held k) (execute_at old.regs pc old.reserved over).executed
 
 module _ {W : Type 0} (S : SwapStore W)
     (k : Kernel W) (mem : Memory W) (pid other : Pid) (same : other ≡ pid) (whole : IsWhole S k)
@@ -141,9 +141,9 @@ module _ {W : Type 0} (S : SwapStore W)
   known_after = told_all (means_bytes S mem) (user_view S.held mem other).byte means.1
       ∙ ap (λ p. Some (user_view S.held mem p).byte) same
 
-  -- where the timer's page is, and the timer afterwards
-  module _ (on : Bool) (timer : Option ℕ) (claimed : on ≡ has_timer (machine_of S.held k) pid) (unseen : on ≡ false → timer ≡ k.timer)
-      (matched : Matched (machine_of S.held k)) where
+  -- where the timer's page is, what the process sees then, and the timer afterwards
+  module _ (on : Bool) (timer : Option ℕ) (shown : SeenMemory) (is_shown : shown ≡ timed_memory on (timer_now k) (user_view S.held k.mem pid))
+      (unseen : on ≡ false → timer ≡ k.timer) where
     -- what is told of the memory before and after
     abbrev pages_before : View
     pages_before = record { may = (user_view S.held k.mem pid).may; console = (user_view S.held k.mem pid).console; content = user_content S k.mem pid; timer = None }
@@ -159,7 +159,7 @@ module _ {W : Type 0} (S : SwapStore W)
     view_after = timed_view on k.steps timer pages_after
 
     pub has_run : (old new before : Core) (pc : ℕ) (answer : Ran) → old ≡ before → Performs view_before view_after old new pc answer
-        → (answer ≡ Failed → ⊥) → HasRun S.held k mem timer pid before new pc answer
+        → (answer ≡ Failed → ⊥) → HasRun S.held k mem timer pid shown before new pc answer
     unfolding machine_of seen_memory
     has_run old new before pc answer same_core h done =
         let view : SeenMemory = timed_memory on (timer_now k) (user_view S.held k.mem pid) in
@@ -170,9 +170,7 @@ module _ {W : Type 0} (S : SwapStore W)
         (subst (λ o. Performs (record view_before { content = o }) view_after old new pc answer) known_before h) in
         let e : IsPerformed x told view_after before new answer =
         is_performed (execute_at before.regs pc before.reserved) byte view_before view_after before new answer done known in
-        let same_x : execute_at before.regs pc before.reserved (memory_of (machine_of S.held k) pid) ≡ x =
-        ap (execute_at before.regs pc before.reserved)
-        (memory_seen S.held k pid matched ∙ ap (λ b. timed_memory b (timer_now k) (user_view S.held k.mem pid)) (sym claimed)) in
+        let same_x : execute_at before.regs pc before.reserved shown ≡ x = ap (execute_at before.regs pc before.reserved) is_shown in
         let lawful : StoresLawfully view x.executed = stores_lawfully view before.regs pc before.reserved in
         let left : timer ≡ compare_after k.timer x.executed =
         compare_left on k.steps (user_view S.held k.mem pid) k.timer timer x.executed refl lawful e.executed.timer unseen in
@@ -192,7 +190,7 @@ module _ {W : Type 0} (S : SwapStore W)
 -- ---- as the kernel says it
 
 module _ {W : Type 0} (held : W → Held) (k : Kernel W) (mem : Memory W) (timer : Option ℕ) (who : ThreadId) (old new : Core) (pc : ℕ) (answer : Ran)
-    (h : HasRun held k mem timer who.pid old new pc answer) where
+    (h : HasRun held k mem timer who.pid (memory_of (machine_of held k) who.pid) old new pc answer) where
   abbrev x : Executed
   x = (execute_at old.regs pc old.reserved (memory_of (machine_of held k) who.pid)).executed
 

@@ -3,7 +3,6 @@
 ghost use Rattle.std.specs.Prelude.{ℕ, ◌≡◌, ◌+◌, ◌<◌, ◌≤◌, ◌%◌, [], true, false, is_some, IfOk, IsSome, OnErr, OnOk};
 ghost use Rattle.machine_model.specs.Runs.Matched.{Matched};
 ghost use Rattle.machine_model.specs.State.Order.{actor, ready_at};
-ghost use Rattle.machine_model.specs.Stepping.Interrupts.{is_claim_of};
 ghost use Rattle.machine_model.specs.Stepping.Step.{step};
 ghost use Rattle.machine_model.specs.Stepping.Timer.{is_due};
 ghost use Rattle.xk_parts.specs.Shown.{thread_of};
@@ -15,7 +14,6 @@ ghost use Rattle.vm_memory.specs.Tie.{IsTied};
 ghost use Rattle.vm_memory.specs.Using.Known.{Remembers};
 ghost use Rattle.vm_memory.specs.Using.UserView.{KeepsRest};
 ghost use Rattle.xk_base.specs.Outside.{Rose};
-ghost use Rattle.xk_base.specs.declared.limits.TheConstants.{TIMER_INTERRUPT};
 ghost use Rattle.xk_kernel.specs.Knowing.{KnowsBytes, PutsNoneOut};
 ghost use Rattle.xk_kernel.specs.Quiet.{RunsQuietly, in_hand};
 ghost use Rattle.xk_kernel.specs.QuietOver.{Lent, RunsOver, StepsOver};
@@ -23,7 +21,7 @@ ghost use Rattle.xk_kernel.specs.Sound.{IsSound, IsUsable, IsWhole, Keeps};
 ghost use Rattle.xk_kernel.specs.State.{machine_of};
 ghost use Rattle.xk_kernel.specs.Stepping.{last_of};
 
-use crate::kernel::stepping::{ends_handler, ends_thread, reservation};
+use crate::kernel::stepping::reservation;
 use crate::kernel::{Kernel, SwapFault};
 use rv32_atomics::run_or_leave;
 use rv32_hart::Ran;
@@ -35,8 +33,9 @@ use xk_ports::SwapStore;
 impl<W: SwapStore> Kernel<W> {
     /// Does the next steps while they are quiet, at most so many, and answers how many: a quiet step is an
     /// instruction by which the cursor's thread goes on, with no effect but on itself and its memory. It
-    /// leaves no record and ends no turn. Where a process has claimed the timer's interrupt, none of its
-    /// steps is quiet. No step searches anything or takes memory. Only `close` may follow a `SwapFault`.
+    /// leaves no record, ends no turn and needs nothing of the timer's page: a load or a store there isn't
+    /// quiet, nor is a step at whose end the timer is due. No step searches anything or takes memory. Only
+    /// `close` may follow a `SwapFault`.
     pub fn run_quiet(&mut self, most: u32) -> Result<u32, SwapFault>
         requires sound { IsSound W.SwapStore self.old }
         requires usable { IsUsable self.old }
@@ -63,7 +62,7 @@ impl<W: SwapStore> Kernel<W> {
         ensures keeps { Keeps W.SwapStore self.old self.new }
     {
         let who = self.cursor;
-        if self.has_timer(who.pid) || !self.is_ready_at(who) {
+        if !self.is_ready_at(who) {
             return Ok(0);
         }
         let until = self.steps_before_due(most);
@@ -104,7 +103,6 @@ impl<W: SwapStore> Kernel<W> {
         requires whole { IsWhole W.SwapStore self.old }
         requires usable { IsUsable self.old }
         requires matched { Matched (machine_of W.held self.old) }
-        requires untimed { is_claim_of self.old.cursor.pid ((machine_of W.held self.old).claims TIMER_INTERRUPT) ≡ false }
         requires rests { (j : ℕ) → j < most → is_due self.old.timer (self.old.steps + j + 1) ≡ false }
         requires ready { is_ready_state thread.old.state ≡ true }
         requires aligned { thread.old.pc % 4 ≡ 0 }
@@ -219,15 +217,12 @@ fn quiet_step<W: SwapStore>(
         let new : Lent W = record { mem = user.new.mem.now; thread = thread_of thread.new; reserved = reserved.new } in
         IfOk result (λ quiet. StepsOver W.SwapStore who old new quiet) }
 {
-    if ends_thread(who, thread.pc) || ends_handler(who, thread.pc) {
-        return Ok(false);
-    }
     match run_or_leave(&mut thread.regs, thread.pc, reserved, user) {
         Ran::Next(next) => {
             thread.pc = next;
             Ok(true)
         }
-        // `step` does it.
+        // `step` does it. It also ends the thread or the handler: no page is there, so that the fetch traps.
         Ran::Ecall | Ran::Trap { .. } | Ran::Device { .. } => Ok(false),
         Ran::Failed => Err(SwapFault),
     }

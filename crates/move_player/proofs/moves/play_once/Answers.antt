@@ -7,9 +7,9 @@ use Rattle.machine_model.specs.Stepping.Step.{Recorded}
 use Rattle.xk_kernel.specs.Stepping.{event_done}
 use Rattle.node_laws.specs.Moves.{Asked, Point, bytes_of}
 use Rattle.order_choices.specs.Asking.{asked_of, came_of}
-use Rattle.order_choices.proofs.MoveLemmas.{may_come_there}
+use Rattle.order_choices.proofs.MoveLemmas.{came_set, may_come_there}
 use Rattle.move_player.specs.Runs.{point_of}
-use Rattle.move_player.proofs.MoveLemmas.{came_set, once_leads}
+use Rattle.move_player.proofs.MoveLemmas.{once_leads}
 use Rattle.move_player.proofs.moves.play_once.Goals as goal
 
 pub event_of-requires : goal.event_of-requires

@@ -6,6 +6,7 @@ use Rattle.machine_model.specs.State.Order.{ready_at}
 use Rattle.machine_model.specs.Stepping.Reservations.{reserved_by}
 use Rattle.machine_model.specs.Stepping.Step.{performed}
 use Rattle.machine_model.specs.State.Threads.{put_thread}
+use Rattle.machine_model.specs.State.Views.{memory_of}
 use Rattle.rv32_atomics.specs.Performing.{Core}
 use Rattle.rv32_hart.specs.Running.{IfFailed, UnlessFailed, ran_of}
 use Rattle.thread_table.specs.Lending.{with_thread}
@@ -20,6 +21,7 @@ use Rattle.xk_parts.specs.Shown.{thread_of}
 use Rattle.xk_kernel.specs.State.{machine_of}
 use Rattle.xk_kernel.proofs.Acting.ThreadLemmas.{in_table, machine_put, put_same, thread_found}
 use Rattle.xk_kernel.proofs.Memory.MemoryPartLemmas.{keeps_with, with_memory}
+use Rattle.xk_kernel.proofs.Memory.TimerViewLemmas.{timed_seen}
 use Rattle.xk_kernel.proofs.Running.RanLemmas.{goes_aligned, has_failed_now, ran_matched, ran_ready, unless_failed, usable_unless, was_out}
 use Rattle.xk_kernel.proofs.Running.RunLemmas.{HasRun, given_back, has_run, machine_goes_on, machine_stays, of_thread, registers_stay, whole_lent, whole_ran, with_both}
 use Rattle.xk_kernel.proofs.Running.SomeLemmas.{HasRunSome, some_goes_on, some_run, some_stays}
@@ -72,6 +74,7 @@ returns-in-Ecall-clause-answer g c =
     unless_failed c.run_over-user.new.ran _ (λ done.
     let over : MeansBytesOver g.W.SwapStore c.args.self.now.mem c.run_over-user.result.mem.now = subst (λ mem. MeansBytesOver g.W.SwapStore c.args.self.now.mem mem) back known in
     let run : HasRun g.W.SwapStore.held c.args.self.now c.run_over-user.result.mem.now c.run_over-user.new.timer c.args.who.pid
+    (memory_of (machine_of g.W.SwapStore.held c.args.self.now) c.args.who.pid)
     (record {
       regs = c.thread_mut-thread.result.now.regs;
       reserved = reserved_by c.args.who
@@ -83,7 +86,8 @@ returns-in-Ecall-clause-answer g c =
     }) c.thread_mut-thread.result.now.pc c.run_over-user.new.ran =
     has_run g.W.SwapStore
     c.args.self.now c.run_over-user.result.mem.now c.args.who.pid c.run_over-user.result.pid c.run_over-user.ensures.rest.1 c.requires.whole c.run_over-user.ensures.rest.2 over
-    c.has_timer-on.result c.run_over-user.new.timer c.has_timer-on.ensures c.run_over-user.ensures.timer c.requires.matched
+    c.has_timer-on.result c.run_over-user.new.timer (memory_of (machine_of g.W.SwapStore.held c.args.self.now) c.args.who.pid)
+    (timed_seen g.W.SwapStore.held c.args.self.now c.args.who.pid c.has_timer-on.result c.has_timer-on.ensures c.requires.matched) c.run_over-user.ensures.timer
     (record { regs = c.thread_mut-thread.result.now.regs; reserved = c.args.reserved.now }) (record { regs = c.run_over-user.new.thread.regs; reserved = c.run_over-user.new.reserved })
     (record { regs = c.thread_mut-thread.result.now.regs; reserved = reserved_by c.args.who (machine_of g.W.SwapStore.held c.args.self.now).reserved }) c.thread_mut-thread.result.now.pc c.run_over-user.new.ran
     (ap (λ (reserved : Option ℕ). record { regs = c.thread_mut-thread.result.now.regs; reserved = reserved }) c.requires.reserved) c.run_over-user.ensures.performs done in
@@ -98,6 +102,7 @@ returns-in-Ecall-clause-machine g c =
     unless_failed c.run_over-user.new.ran _ (λ done.
     let over : MeansBytesOver g.W.SwapStore c.args.self.now.mem c.run_over-user.result.mem.now = subst (λ mem. MeansBytesOver g.W.SwapStore c.args.self.now.mem mem) back known in
     let run : HasRun g.W.SwapStore.held c.args.self.now c.run_over-user.result.mem.now c.run_over-user.new.timer c.args.who.pid
+    (memory_of (machine_of g.W.SwapStore.held c.args.self.now) c.args.who.pid)
     (record {
       regs = c.thread_mut-thread.result.now.regs;
       reserved = reserved_by c.args.who
@@ -109,7 +114,8 @@ returns-in-Ecall-clause-machine g c =
     }) c.thread_mut-thread.result.now.pc c.run_over-user.new.ran =
     has_run g.W.SwapStore
     c.args.self.now c.run_over-user.result.mem.now c.args.who.pid c.run_over-user.result.pid c.run_over-user.ensures.rest.1 c.requires.whole c.run_over-user.ensures.rest.2 over
-    c.has_timer-on.result c.run_over-user.new.timer c.has_timer-on.ensures c.run_over-user.ensures.timer c.requires.matched
+    c.has_timer-on.result c.run_over-user.new.timer (memory_of (machine_of g.W.SwapStore.held c.args.self.now) c.args.who.pid)
+    (timed_seen g.W.SwapStore.held c.args.self.now c.args.who.pid c.has_timer-on.result c.has_timer-on.ensures c.requires.matched) c.run_over-user.ensures.timer
     (record { regs = c.thread_mut-thread.result.now.regs; reserved = c.args.reserved.now }) (record { regs = c.run_over-user.new.thread.regs; reserved = c.run_over-user.new.reserved })
     (record { regs = c.thread_mut-thread.result.now.regs; reserved = reserved_by c.args.who (machine_of g.W.SwapStore.held c.args.self.now).reserved }) c.thread_mut-thread.result.now.pc c.run_over-user.new.ran
     (ap (λ (reserved : Option ℕ). record { regs = c.thread_mut-thread.result.now.regs; reserved = reserved }) c.requires.reserved) c.run_over-user.ensures.performs done in
@@ -138,6 +144,7 @@ returns-in-Ecall-clause-reserved g c =
     unless_failed c.run_over-user.new.ran _ (λ done.
     let over : MeansBytesOver g.W.SwapStore c.args.self.now.mem c.run_over-user.result.mem.now = subst (λ mem. MeansBytesOver g.W.SwapStore c.args.self.now.mem mem) back known in
     let run : HasRun g.W.SwapStore.held c.args.self.now c.run_over-user.result.mem.now c.run_over-user.new.timer c.args.who.pid
+    (memory_of (machine_of g.W.SwapStore.held c.args.self.now) c.args.who.pid)
     (record {
       regs = c.thread_mut-thread.result.now.regs;
       reserved = reserved_by c.args.who
@@ -149,7 +156,8 @@ returns-in-Ecall-clause-reserved g c =
     }) c.thread_mut-thread.result.now.pc c.run_over-user.new.ran =
     has_run g.W.SwapStore
     c.args.self.now c.run_over-user.result.mem.now c.args.who.pid c.run_over-user.result.pid c.run_over-user.ensures.rest.1 c.requires.whole c.run_over-user.ensures.rest.2 over
-    c.has_timer-on.result c.run_over-user.new.timer c.has_timer-on.ensures c.run_over-user.ensures.timer c.requires.matched
+    c.has_timer-on.result c.run_over-user.new.timer (memory_of (machine_of g.W.SwapStore.held c.args.self.now) c.args.who.pid)
+    (timed_seen g.W.SwapStore.held c.args.self.now c.args.who.pid c.has_timer-on.result c.has_timer-on.ensures c.requires.matched) c.run_over-user.ensures.timer
     (record { regs = c.thread_mut-thread.result.now.regs; reserved = c.args.reserved.now }) (record { regs = c.run_over-user.new.thread.regs; reserved = c.run_over-user.new.reserved })
     (record { regs = c.thread_mut-thread.result.now.regs; reserved = reserved_by c.args.who (machine_of g.W.SwapStore.held c.args.self.now).reserved }) c.thread_mut-thread.result.now.pc c.run_over-user.new.ran
     (ap (λ (reserved : Option ℕ). record { regs = c.thread_mut-thread.result.now.regs; reserved = reserved }) c.requires.reserved) c.run_over-user.ensures.performs done in
@@ -253,6 +261,7 @@ returns-in-Next-clause-answer g c =
     unless_failed c.in-Next.ran _ (λ done.
     let over : MeansBytesOver g.W.SwapStore c.args.self.now.mem c.run_over-user.result.mem.now = subst (λ mem. MeansBytesOver g.W.SwapStore c.args.self.now.mem mem) back known in
     let run : HasRun g.W.SwapStore.held c.args.self.now c.run_over-user.result.mem.now c.run_over-user.new.timer c.args.who.pid
+    (memory_of (machine_of g.W.SwapStore.held c.args.self.now) c.args.who.pid)
     (record {
       regs = c.thread_mut-thread.result.now.regs;
       reserved = reserved_by c.args.who
@@ -264,7 +273,8 @@ returns-in-Next-clause-answer g c =
     }) c.thread_mut-thread.result.now.pc c.run_over-user.new.ran =
     has_run g.W.SwapStore
     c.args.self.now c.run_over-user.result.mem.now c.args.who.pid c.run_over-user.result.pid c.run_over-user.ensures.rest.1 c.requires.whole c.run_over-user.ensures.rest.2 over
-    c.has_timer-on.result c.run_over-user.new.timer c.has_timer-on.ensures c.run_over-user.ensures.timer c.requires.matched
+    c.has_timer-on.result c.run_over-user.new.timer (memory_of (machine_of g.W.SwapStore.held c.args.self.now) c.args.who.pid)
+    (timed_seen g.W.SwapStore.held c.args.self.now c.args.who.pid c.has_timer-on.result c.has_timer-on.ensures c.requires.matched) c.run_over-user.ensures.timer
     (record { regs = c.thread_mut-thread.result.now.regs; reserved = c.args.reserved.now }) (record { regs = c.run_over-user.new.thread.regs; reserved = c.run_over-user.new.reserved })
     (record { regs = c.thread_mut-thread.result.now.regs; reserved = reserved_by c.args.who (machine_of g.W.SwapStore.held c.args.self.now).reserved }) c.thread_mut-thread.result.now.pc c.run_over-user.new.ran
     (ap (λ (reserved : Option ℕ). record { regs = c.thread_mut-thread.result.now.regs; reserved = reserved }) c.requires.reserved) c.run_over-user.ensures.performs (λ e. done (c.in-Next.ran-is ∙ e)) in
@@ -279,6 +289,7 @@ returns-in-Next-clause-machine g c =
     unless_failed c.in-Next.ran _ (λ done.
     let over : MeansBytesOver g.W.SwapStore c.args.self.now.mem c.run_over-user.result.mem.now = subst (λ mem. MeansBytesOver g.W.SwapStore c.args.self.now.mem mem) back known in
     let run : HasRun g.W.SwapStore.held c.args.self.now c.run_over-user.result.mem.now c.run_over-user.new.timer c.args.who.pid
+    (memory_of (machine_of g.W.SwapStore.held c.args.self.now) c.args.who.pid)
     (record {
       regs = c.thread_mut-thread.result.now.regs;
       reserved = reserved_by c.args.who
@@ -290,7 +301,8 @@ returns-in-Next-clause-machine g c =
     }) c.thread_mut-thread.result.now.pc c.run_over-user.new.ran =
     has_run g.W.SwapStore
     c.args.self.now c.run_over-user.result.mem.now c.args.who.pid c.run_over-user.result.pid c.run_over-user.ensures.rest.1 c.requires.whole c.run_over-user.ensures.rest.2 over
-    c.has_timer-on.result c.run_over-user.new.timer c.has_timer-on.ensures c.run_over-user.ensures.timer c.requires.matched
+    c.has_timer-on.result c.run_over-user.new.timer (memory_of (machine_of g.W.SwapStore.held c.args.self.now) c.args.who.pid)
+    (timed_seen g.W.SwapStore.held c.args.self.now c.args.who.pid c.has_timer-on.result c.has_timer-on.ensures c.requires.matched) c.run_over-user.ensures.timer
     (record { regs = c.thread_mut-thread.result.now.regs; reserved = c.args.reserved.now }) (record { regs = c.run_over-user.new.thread.regs; reserved = c.run_over-user.new.reserved })
     (record { regs = c.thread_mut-thread.result.now.regs; reserved = reserved_by c.args.who (machine_of g.W.SwapStore.held c.args.self.now).reserved }) c.thread_mut-thread.result.now.pc c.run_over-user.new.ran
     (ap (λ (reserved : Option ℕ). record { regs = c.thread_mut-thread.result.now.regs; reserved = reserved }) c.requires.reserved) c.run_over-user.ensures.performs (λ e. done (c.in-Next.ran-is ∙ e)) in
@@ -324,6 +336,7 @@ returns-in-Next-clause-reserved g c =
     unless_failed c.in-Next.ran _ (λ done.
     let over : MeansBytesOver g.W.SwapStore c.args.self.now.mem c.run_over-user.result.mem.now = subst (λ mem. MeansBytesOver g.W.SwapStore c.args.self.now.mem mem) back known in
     let run : HasRun g.W.SwapStore.held c.args.self.now c.run_over-user.result.mem.now c.run_over-user.new.timer c.args.who.pid
+    (memory_of (machine_of g.W.SwapStore.held c.args.self.now) c.args.who.pid)
     (record {
       regs = c.thread_mut-thread.result.now.regs;
       reserved = reserved_by c.args.who
@@ -335,7 +348,8 @@ returns-in-Next-clause-reserved g c =
     }) c.thread_mut-thread.result.now.pc c.run_over-user.new.ran =
     has_run g.W.SwapStore
     c.args.self.now c.run_over-user.result.mem.now c.args.who.pid c.run_over-user.result.pid c.run_over-user.ensures.rest.1 c.requires.whole c.run_over-user.ensures.rest.2 over
-    c.has_timer-on.result c.run_over-user.new.timer c.has_timer-on.ensures c.run_over-user.ensures.timer c.requires.matched
+    c.has_timer-on.result c.run_over-user.new.timer (memory_of (machine_of g.W.SwapStore.held c.args.self.now) c.args.who.pid)
+    (timed_seen g.W.SwapStore.held c.args.self.now c.args.who.pid c.has_timer-on.result c.has_timer-on.ensures c.requires.matched) c.run_over-user.ensures.timer
     (record { regs = c.thread_mut-thread.result.now.regs; reserved = c.args.reserved.now }) (record { regs = c.run_over-user.new.thread.regs; reserved = c.run_over-user.new.reserved })
     (record { regs = c.thread_mut-thread.result.now.regs; reserved = reserved_by c.args.who (machine_of g.W.SwapStore.held c.args.self.now).reserved }) c.thread_mut-thread.result.now.pc c.run_over-user.new.ran
     (ap (λ (reserved : Option ℕ). record { regs = c.thread_mut-thread.result.now.regs; reserved = reserved }) c.requires.reserved) c.run_over-user.ensures.performs (λ e. done (c.in-Next.ran-is ∙ e)) in

@@ -12,24 +12,21 @@ use Rattle.xk_kernel.proofs.Acting.SettlesLemmas.{on_failure}
 use Rattle.xk_kernel.proofs.Acting.StepOfLemmas.{failed_sound}
 use Rattle.xk_kernel.proofs.Memory.KnownLemmas.{means_ends}
 use Rattle.xk_kernel.proofs.Quieting.RowLemmas.{hand_in, matched_still, whole_still}
-use Rattle.xk_kernel.proofs.Quieting.TurnLemmas.{aligned_in_hand, came_back, matched_back, none_quiet, ready_acts, some_quiet, still_steps, still_there, timed_is_loud, unready_is_loud}
+use Rattle.xk_kernel.proofs.Quieting.TurnLemmas.{aligned_in_hand, came_back, matched_back, none_quiet, ready_acts, some_quiet, still_steps, still_there, unready_is_loud}
 use Rattle.xk_kernel.proofs.kernel.Kernel.run_quiet.Goals as goal
-use Rattle.xk_kernel.proofs.kernel.Kernel.run_quiet.Goals.{then-has_timer-via-then-has_timer, then-has_timer-via-else-has_timer+then-not-is_ready_at}
 
 -- ---- no quiet step
 
 -- src/kernel/quiet.rt
-pub returns-then-has_timer-clause-runs : goal.returns-then-has_timer-clause-runs
+pub returns-then-not-is_ready_at-clause-runs : goal.returns-then-not-is_ready_at-clause-runs
 unfolding machine_of
-returns-then-has_timer-clause-runs g c known =
-    let loud : is_quiet (machine_of g.W.SwapStore.held c.args.self.now) ≡ false = elim c.then-has_timer.branch [
-      | then-has_timer-via-then-has_timer w ↦ timed_is_loud (machine_of g.W.SwapStore.held c.args.self.now) (sym c.has_timer.ensures ∙ w.if-has_timer.true)
-      | then-has_timer-via-else-has_timer+then-not-is_ready_at w ↦ unready_is_loud (machine_of g.W.SwapStore.held c.args.self.now) (sym w.is_ready_at.ensures ∙ w.if-not-is_ready_at.true)
-    ] in
+returns-then-not-is_ready_at-clause-runs g c known =
+    let loud : is_quiet (machine_of g.W.SwapStore.held c.args.self.now) ≡ false =
+    unready_is_loud (machine_of g.W.SwapStore.held c.args.self.now) (sym c.is_ready_at.ensures ∙ c.if-not-is_ready_at.true) in
     record { steps = refl; next = λ _. loud }
 
-pub returns-then-has_timer-clause-tie : goal.returns-then-has_timer-clause-tie
-returns-then-has_timer-clause-tie g c = sound-tied g.W.SwapStore c.args.self.now.mem c.requires.sound.whole.mem
+pub returns-then-not-is_ready_at-clause-tie : goal.returns-then-not-is_ready_at-clause-tie
+returns-then-not-is_ready_at-clause-tie g c = sound-tied g.W.SwapStore c.args.self.now.mem c.requires.sound.whole.mem
 
 -- ---- the row
 

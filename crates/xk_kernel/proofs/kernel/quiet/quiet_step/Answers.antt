@@ -1,31 +1,15 @@
 -- The next instruction of a thread in hand is the quiet step of every kernel around its memory, or isn't done.
-use Rattle.std.proofs.Common.{sym, ◌∙◌}
-use Rattle.vm_memory.proofs.Using.UserKeepLemmas.{rest_same}
 use Rattle.vm_memory.specs.Memory.{IsUsable}
 use Rattle.vm_memory.specs.Sound.{IsSound}
 use Rattle.vm_memory.specs.Using.Known.{Remembers}
 use Rattle.xk_kernel.proofs.Acting.ActLemmas.{if_failed_at}
 use Rattle.xk_kernel.proofs.Quieting.InstructionLemmas.{has_failed_by, of_other, was_out_by}
-use Rattle.xk_kernel.proofs.Quieting.OverLemmas.{end_over, handler_end_over, next_over, other_over}
+use Rattle.xk_kernel.proofs.Quieting.OverLemmas.{next_over, other_over}
 use Rattle.xk_kernel.proofs.kernel.quiet.quiet_step.Goals as goal
-use Rattle.xk_kernel.proofs.kernel.quiet.quiet_step.Goals.{then-ends_thread-via-then-ends_thread, then-ends_thread-via-else-ends_thread+then-ends_handler}
 
 -- src/kernel/quiet.rt
 pub run_or_leave-requires-clause-fit : goal.run_or_leave-requires-clause-fit
 run_or_leave-requires-clause-fit g c = (c.requires.sound, c.requires.usable, c.requires.known)
-
-pub returns-then-ends_thread-clause-rest : goal.returns-then-ends_thread-clause-rest
-returns-then-ends_thread-clause-rest g c = rest_same g.W.SwapStore c.args.user.now.pid c.args.user.now.mem.now
-
-pub returns-then-ends_thread-clause-does : goal.returns-then-ends_thread-clause-does
-returns-then-ends_thread-clause-does g c = elim c.then-ends_thread.branch [
-  | then-ends_thread-via-then-ends_thread w ↦
-      end_over g.W.SwapStore c.args.who c.args.user.now.mem.now c.args.thread.now c.requires.ready c.args.reserved.now
-      (sym c.ends_thread.ensures ∙ w.if-ends_thread.true)
-  | then-ends_thread-via-else-ends_thread+then-ends_handler w ↦
-      handler_end_over g.W.SwapStore c.args.who c.args.user.now.mem.now c.args.thread.now c.requires.ready c.args.reserved.now
-      (sym w.ends_handler.ensures ∙ w.if-ends_handler.true)
-]
 
 pub returns-in-Next-clause-known : goal.returns-in-Next-clause-known
 returns-in-Next-clause-known g c = c.run_or_leave.ensures.rest.3 c.requires.known
@@ -39,7 +23,7 @@ returns-in-Next-clause-does g c =
     next_over g.W.SwapStore c.args.who c.args.user.now.mem.now c.args.thread.now c.requires.ready c.args.reserved.now
     c.args.user.now.pid ran.new.mem.pid c.requires.pid ran.ensures.rest.1 ran.new.mem.mem.now ran.ensures.rest.2
     (record { regs = ran.new.regs; reserved = ran.new.reserved }) ran.result ran.ensures.performs
-    c.in-Next.next c.in-Next.is (sym c.ends_thread.ensures ∙ c.if-ends_thread.false) (sym c.ends_handler.ensures ∙ c.if-ends_handler.false)
+    c.in-Next.next c.in-Next.is
 
 pub returns-in-Ecall-clause-known : goal.returns-in-Ecall-clause-known
 returns-in-Ecall-clause-known g c = c.run_or_leave.ensures.rest.3 c.requires.known
