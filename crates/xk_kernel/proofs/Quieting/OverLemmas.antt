@@ -1,6 +1,6 @@
 -- An instruction of a thread in hand over its memory, while that is lent, is the quiet step of every kernel around it, or isn't done.
 use Rattle.xk_ports.specs.declared.store.SwapStore.{Ghosts as SwapStore}
-use Rattle.std.proofs.Common.{◌≡◌, ℕ, ◌+◌, true, false, Option, refl, sym, ap, subst, ◌∙◌, inl, inr}
+use Rattle.std.proofs.Common.{◌≡◌, ℕ, ◌+◌, true, false, Option, sym, ap, subst, ◌∙◌, inl, inr}
 use Rattle.rv32_atomics.specs.Performing.{Core, Performs, PerformsOrLeaves, core_left}
 use Rattle.rv32_hart.specs.declared.ran.Ran.{Ran}
 use Rattle.rv32_hart.specs.declared.ran.Ran.TheVariants as ran
