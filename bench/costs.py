@@ -72,6 +72,8 @@ def tiny_runs(files):
         name = files.put(f"tiny{size}", image([jal(ZERO, 0)], ram_bytes=size << 20))
         words = ["trace", name, files.ticks("one", 1)]
         yield Row(f"a tiny run with a RAM of {size} MiB", words, None, 1, "ms")
+    words = ["trace", "tiny2", files.ticks("one", 1), LIMIT, str(MOST_SLOTS)]
+    yield Row(f"a tiny run with a RAM of 2 MiB and {MOST_SLOTS:,} slots in memory", words, None, 1, "ms")
 
 
 # Steps of the process that has claimed the timer's interrupt, and of one that hasn't.
