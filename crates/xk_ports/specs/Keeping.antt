@@ -1,7 +1,6 @@
 -- What calls that hold a store keep of it, and when what its slots hold is known.
-use Rattle.std.specs.Prelude.{◌≡◌, ◌≤◌, ℕ, Bool, ◌&&◌, is_some, Option}
+use Rattle.std.specs.Prelude.{◌≡◌, ◌≤◌, Bool, ◌&&◌, is_some}
 use Rattle.xk_ports.specs.declared.store.SwapStore.{Ghosts as SwapStore}
-use Rattle.xk_ports.specs.Store.{Contents}
 
 -- the store is honest, and tells what its slots hold
 abbrev pub tells_truly : {W : Type 0} → SwapStore W → W → Bool

@@ -1,10 +1,9 @@
 //! Pages in memory, in numbered slots, and the preparations that were asked for.
 
-ghost use Rattle.std.specs.Prelude.{◌≡◌, ◌+◌, ◌*◌, ◌<◌, ◌≤◌, [], ℕ, Bool, map, length, slice_index, OnOk, OnErr, IfOk};
+ghost use Rattle.std.specs.Prelude.{◌≡◌, ◌+◌, ◌*◌, ◌<◌, ◌≤◌, ◌++◌, ◌-◌, [], ℕ, Bool, map, length, replicate, vec_len, vec_capacity, OnOk, OnErr, IfOk};
 ghost use Rattle.std.specs.Option.{option_copied};
-ghost use Rattle.xk_ports.specs.Store.{with_page};
 ghost use Rattle.xk_ports.specs.Pages.{no_pages, contents_of, with_preparation, IsPrepared, PutsPage};
-ghost use Rattle.xk_ports.specs.PagesView.{shown_preparation};
+ghost use Rattle.xk_ports.specs.PagesView.{shown_preparation, with_bytes_at};
 ghost use Rattle.xk_base.specs.declared.limits.TheConstants.{SLOT_LIMIT};
 
 use std::alloc::Global;
@@ -25,26 +24,31 @@ pub struct Preparation {
     pub prepared: bool,
 }
 
-/// Slots of 4096 bytes. It takes memory when they are made.
+/// Slots of 4096 bytes. The room for all of them is taken when they are made, but a slot's bytes are written only when
+/// it, or one behind it, is first used: so many slots that nothing uses cost no time.
 #[derive(Debug, Drop)]
 pub(crate) struct Pages {
+    // Those of the slots up to the last one that was used; all behind it hold zeros.
     bytes: Option<Vec<u8>>,
     slots: u32,
     asked: Option<Row<Preparation>>,
 }
 
 impl Model for Pages {
-    ghost use Rattle.std.specs.Prelude.{◌≡◌, ◌*◌, ◌≤◌, [], map, length, unwrap_or};
-    ghost use Rattle.std.specs.Option.{option_map};
+    ghost use Rattle.std.specs.Prelude.{◌≤◌, [], map, unwrap_or};
     ghost use Rattle.xk_ports.specs.Pages.{PagesState};
-    ghost use Rattle.xk_ports.specs.PagesView.{shown_preparation, bytes_in};
+    ghost use Rattle.xk_ports.specs.PagesView.{shown_preparation, bytes_in, all_bytes, AreKept};
     ghost use Rattle.xk_base.specs.declared.limits.TheConstants.{SLOT_LIMIT};
 
     ghost Value = { PagesState };
 
-    ghost view = { λ p. record { bytes = bytes_in p.bytes; slots = p.slots; asked = map shown_preparation (unwrap_or p.asked []) } };
+    ghost view = { λ p. record {
+      bytes = all_bytes (bytes_in p.bytes) p.slots;
+      slots = p.slots;
+      asked = map shown_preparation (unwrap_or p.asked []);
+    } };
 
-    ghost invariant = { λ p. (length (bytes_in p.bytes) ≡ p.slots * 4096) × (p.slots ≤ SLOT_LIMIT) };
+    ghost invariant = { λ p. AreKept p.bytes p.slots × (p.slots ≤ SLOT_LIMIT) };
 }
 
 impl Pages {
@@ -115,7 +119,9 @@ impl Pages {
         ensures ok { OnOk result (IsPrepared self.old self.new slots (option_copied name.entry)) }
         ensures err { OnErr result (self.new ≡ self.old) }
     {
-        let bytes = zeros(alloc, slots as usize * PAGE)?;
+        let Ok(bytes) = Vec::with_capacity(alloc, slots as usize * PAGE) else {
+            return Err(NoMemory);
+        };
         self.note(alloc, slots, name, true)?;
         self.bytes = Some(bytes);
         self.slots = slots;
@@ -129,7 +135,11 @@ impl Pages {
         ensures { PutsPage self.old self.new s.0 page.now }
     {
         match &mut self.bytes {
-            Some(bytes) => write_slot(bytes.as_mut_slice(), s.0 as usize, page),
+            Some(bytes) => {
+                let start = s.0 as usize * PAGE;
+                fill_up_to(bytes, start + PAGE);
+                write_at(bytes, start, page);
+            }
             None => unreachable!(),
         }
     }
@@ -140,12 +150,12 @@ impl Pages {
         requires whole { length into.old ≡ 4096 }
         ensures { into.new ≡ contents_of self.now.bytes s.0 }
     {
+        let start = s.0 as usize * PAGE;
         match &self.bytes {
-            Some(bytes) => {
-                let start = s.0 as usize * PAGE;
+            Some(bytes) if start < bytes.len() => {
                 into.copy_from_slice(&bytes[start..start + PAGE]);
             }
-            None => unreachable!(),
+            _ => into.fill(0),
         }
     }
 }
@@ -164,22 +174,25 @@ fn copied(alloc: Global, name: Option<&str>) -> Result<Option<Row<u8>>, NoMemory
     }
 }
 
-fn zeros(alloc: Global, count: usize) -> Result<Vec<u8>, NoMemory>
-    ensures len { IfOk result (λ bytes. length bytes.items ≡ count) }
-    ensures zero { IfOk result (λ bytes. (i : ℕ) → slice_index bytes.items i ≡ 0) }
+// Where there are fewer bytes, zeros are added. There is room for them.
+fn fill_up_to(bytes: &mut Vec<u8>, count: usize)
+    requires { count ≤ vec_capacity bytes.old }
+    ensures items { bytes.new.items ≡ bytes.old.items ++ replicate (count - length bytes.old.items) 0 }
+    ensures capacity { vec_capacity bytes.old ≤ vec_capacity bytes.new }
 {
-    match vec![in alloc; 0; count] {
-        Ok(bytes) => Ok(bytes),
-        Err(_) => Err(NoMemory),
+    if bytes.len() < count
+        && let Err(_) = bytes.resize(count, 0)
+    {
+        unreachable!()
     }
 }
 
-// Puts a page over the bytes of a slot.
-fn write_slot(bytes: &mut [u8], slot: usize, page: &[u8])
-    requires within { slot * 4096 + 4096 ≤ length bytes.old }
+// Puts a page over the bytes from a place on.
+fn write_at(bytes: &mut Vec<u8>, start: usize, page: &[u8])
+    requires within { start + 4096 ≤ vec_len bytes.old }
     requires whole { length page.now ≡ 4096 }
-    ensures { contents_of bytes.new ≡ with_page (contents_of bytes.old) slot page.now }
+    ensures items { bytes.new.items ≡ with_bytes_at bytes.old.items start page.now }
+    ensures capacity { vec_capacity bytes.new ≡ vec_capacity bytes.old }
 {
-    let start = slot * PAGE;
     bytes[start..start + PAGE].copy_from_slice(page);
 }
