@@ -4,6 +4,7 @@ pub mod ConvertedImage
 pub mod ConvertedLemmas
 pub mod ConvertedSpells
 pub mod ConvertingLemmas
+pub mod GroupLemmas
 pub mod HeaderLemmas
 pub mod ImageLemmas
 pub mod JoinedLemmas

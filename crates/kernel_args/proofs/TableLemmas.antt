@@ -6,18 +6,18 @@ use Rattle.std.proofs.lemmas.Nat.Bits.{bit_at_xor, bit_at_lowest}
 use Rattle.std.proofs.lemmas.Bool.Decides.{eqb_tells}
 use lib.Ieee.Fits.{and_l, and_r}
 use Rattle.kernel_args.specs.CheckNumber.{bits, register_after, shifted}
-use Rattle.kernel_args.specs.declared.check_number.TheConstants.{AFTER_ZEROS}
+use Rattle.kernel_args.specs.declared.check_tables.TheConstants.{AFTER_ONE}
 
 -- the table's first n words are what eight zero bits make of their places
 abbrev are_after_zeros : ℕ → Bool
 are_after_zeros zero = true
-are_after_zeros (suc i) = eqb (get_or AFTER_ZEROS i 0) (register_after i (bits 8 0)) && are_after_zeros i
+are_after_zeros (suc i) = eqb (get_or AFTER_ONE i 0) (register_after i (bits 8 0)) && are_after_zeros i
 
 all_are : T (are_after_zeros 256)
 unfolding bits
 all_are = tt
 
-at_place : (n i : ℕ) → T (are_after_zeros n) → i < n → get_or AFTER_ZEROS i 0 ≡ register_after i (bits 8 0)
+at_place : (n i : ℕ) → T (are_after_zeros n) → i < n → get_or AFTER_ONE i 0 ≡ register_after i (bits 8 0)
 at_place zero i t h = absurd (omega arith)
 at_place (suc n) i t h =
     elim (eq-zero-or-pos (n - i)) [
@@ -25,11 +25,14 @@ at_place (suc n) i t h =
       | inr g ↦ at_place n i (and_r _ (are_after_zeros n) t) (omega arith)
     ]
 
-parity_of : (r x : ℕ) → bit_xor r x % 2 ≡ (r % 2 + x % 2) % 2
+pub in_table : (i : ℕ) → i < 256 → get_or AFTER_ONE i 0 ≡ register_after i (bits 8 0)
+in_table i lt = at_place 256 i all_are lt
+
+pub parity_of : (r x : ℕ) → bit_xor r x % 2 ≡ (r % 2 + x % 2) % 2
 parity_of r x =
     sym (bit_at_lowest (bit_xor r x)) ∙ bit_at_xor r x 0 ∙ rw (bit_at_lowest r, bit_at_lowest x) refl
 
-third_apart : (a b c : ℕ) → bit_xor (bit_xor a b) c ≡ bit_xor (bit_xor a c) b
+pub third_apart : (a b c : ℕ) → bit_xor (bit_xor a b) c ≡ bit_xor (bit_xor a c) b
 third_apart a b c = xor_assoc a b c ∙ ap (bit_xor a) (xor_comm b c) ∙ sym (xor_assoc a c b)
 
 -- a bit that is mixed into the register before the step is a bit that comes in
@@ -64,7 +67,7 @@ low_bits_zero (suc k) q =
     rw (even, shifted_half q k, low_bits_zero k q) refl
 
 -- eight zero bits move the high byte down, and mix in what they make of the low one
-zeros_by_parts : (z : ℕ) → register_after z (bits 8 0) ≡ bit_xor (z / 256) (register_after (z % 256) (bits 8 0))
+pub zeros_by_parts : (z : ℕ) → register_after z (bits 8 0) ≡ bit_xor (z / 256) (register_after (z % 256) (bits 8 0))
 zeros_by_parts z =
     let high : ℕ = z / 256 * 2 ^ 8 in
     let low : z % 256 < 2 ^ 8 = omega arith in
@@ -75,13 +78,13 @@ zeros_by_parts z =
     ∙ ap (λ (bs : List ℕ). bit_xor (register_after (z % 256) bs) (z / 256)) (low_bits_zero 8 (z / 256))
     ∙ xor_comm (register_after (z % 256) (bits 8 0)) (z / 256)
 
-byte_mixed_in : (r b : ℕ) → b < 256 → register_after (bit_xor r b) (bits 8 0) ≡ register_after r (bits 8 b)
+pub byte_mixed_in : (r b : ℕ) → b < 256 → register_after (bit_xor r b) (bits 8 0) ≡ register_after r (bits 8 b)
 byte_mixed_in r b fits =
     let none : b / 2 ^ 8 ≡ 0 = omega arith in
     mixed_steps 8 r b ∙ ap (bit_xor (register_after r (bits 8 b))) none ∙ xor_zero_r (register_after r (bits 8 b))
 
-pub after_byte_by_table : (r b : ℕ) → b < 256 → bit_xor (bit_xor r b / 256) (get_or AFTER_ZEROS (bit_xor r b % 256) 0) ≡ register_after r (bits 8 b)
+pub after_byte_by_table : (r b : ℕ) → b < 256 → bit_xor (bit_xor r b / 256) (get_or AFTER_ONE (bit_xor r b % 256) 0) ≡ register_after r (bits 8 b)
 after_byte_by_table r b fits =
     let z : ℕ = bit_xor r b in
     let low : z % 256 < 256 = omega arith in
-    ap (bit_xor (z / 256)) (at_place 256 (z % 256) all_are low) ∙ sym (zeros_by_parts z) ∙ byte_mixed_in r b fits
+    ap (bit_xor (z / 256)) (in_table (z % 256) low) ∙ sym (zeros_by_parts z) ∙ byte_mixed_in r b fits

@@ -5,6 +5,7 @@
 mod appending;
 mod args;
 mod check_number;
+mod check_tables;
 mod converting;
 mod faults;
 mod found;

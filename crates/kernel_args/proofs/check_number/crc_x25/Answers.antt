@@ -1,9 +1,15 @@
-use Rattle.std.proofs.Common.{arith}
+use Rattle.std.proofs.Common.{ℕ, ◌/◌, List, length, ap, ap₂, ◌∙◌, bit_xor}
 use Rattle.std.specs.List.{flat_map}
-use Rattle.kernel_args.specs.CheckNumber.{bits, register_after}
-use Rattle.kernel_args.proofs.CheckLemmas.{one_more_byte}
+use Rattle.kernel_args.specs.CheckNumber.{bits, check_number, register_after}
+use Rattle.kernel_args.proofs.GroupLemmas.{groups_and_rest}
 use Rattle.kernel_args.proofs.check_number.crc_x25.Goals as goal
 
-pub loop-byte-preserved : goal.loop-byte-preserved
-loop-byte-preserved c =
-    rw c.after_byte-register.ensures (one_more_byte c.loop-byte.register (register_after 0xFFFF (flat_map (bits 8) c.args.bytes.now)) c.loop-byte.byte-index c.args.bytes.now (omega arith) c.loop-byte.invariant)
+pub returns : goal.returns
+unfolding check_number
+returns c =
+    let bytes : List ℕ = c.args.bytes.now in
+    let cut = c.as_chunks.ensures in
+    let groups = ap (λ xs. register_after 0xFFFF (flat_map (flat_map (bits 8)) xs)) cut.front in
+    ap (λ (n : ℕ). bit_xor n 0xFFFF)
+    (c.after_bytes.ensures ∙ ap₂ (λ (n : ℕ) (xs : List ℕ). register_after n (flat_map (bits 8) xs)) (c.after_groups-register.ensures ∙ groups) cut.back
+    ∙ groups_and_rest 8 (length bytes / 8) 0xFFFF bytes)
