@@ -1,4 +1,7 @@
 -- Who is to be answered, and who is.
+pub mod BitLemmas
 pub mod MarkLemmas
+pub mod NotedLemmas
+pub mod ProcessLemmas
 pub mod ReceivingLemmas
 pub mod TellLemmas

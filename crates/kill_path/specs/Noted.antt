@@ -3,4 +3,4 @@ use Rattle.kill_path.specs.ThreadSets.{ThreadSet, marked}
 use Rattle.kill_path.specs.declared.answered.Answered.{Answered}
 
 unfoldable pub noted : Answered → ThreadSet
-noted a = marked a.marks
+noted a = marked a.words

@@ -1,6 +1,8 @@
--- Sets of threads, by a mark for each of all ids.
-use Rattle.std.specs.Prelude.{ℕ, Bool, false, ◌&&◌, List, slice_index_or}
-use Rattle.xk_base.specs.Tables.Circle.{is_thread_id, place_of, thread_ids}
+-- Sets of threads, by a bit for each of all ids.
+use Rattle.std.specs.Prelude.{ℕ, ◌-◌, Bool, false, ◌&&◌, ◌==◌, List, slice_index}
+use Rattle.std.specs.Int.{bit_at}
+use Rattle.xk_base.specs.Tables.Circle.{is_thread_id}
+use Rattle.xk_base.specs.declared.ids.Pid.{Pid}
 use Rattle.xk_base.specs.declared.ids.ThreadId.{ThreadId}
 use Rattle.xk_base.specs.declared.limits.TheConstants.{PROCESS_LIMIT}
 
@@ -10,10 +12,14 @@ ThreadSet = ThreadId → Bool
 abbrev pub nobody : ThreadSet
 nobody id = false
 
--- how many ids there are, of as many processes as there can be
-abbrev pub ids_of_all : ℕ
-ids_of_all = thread_ids PROCESS_LIMIT
+-- the id of the process with the tid
+abbrev pub thread_of : Pid → ℕ → ThreadId
+thread_of pid tid = record { pid = pid; tid = record { 0 = tid } }
 
--- the threads with a mark at their place in ascending order
-abbrev pub marked : List Bool → ThreadSet
-marked marks id = is_thread_id PROCESS_LIMIT id && slice_index_or marks (place_of id) false
+-- those of the set that are of the process
+abbrev pub of_process : Pid → ThreadSet → ThreadSet
+of_process pid set id = (id.pid.0 == pid.0) && set id
+
+-- the threads whose bit is set in the word of their process
+abbrev pub marked : List ℕ → ThreadSet
+marked words id = is_thread_id PROCESS_LIMIT id && (bit_at (slice_index words (id.pid.0 - 2)) id.tid.0 == 1)

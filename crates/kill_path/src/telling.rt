@@ -8,19 +8,19 @@ ghost use Rattle.send_path.specs.Rows.{log_with};
 ghost use Rattle.xk_parts.specs.Threads.{answered};
 ghost use Rattle.thread_table.specs.ThreadMap.{is_receiving as is_receiving_at};
 ghost use Rattle.thread_table.specs.Shown.{process_count, threads_of};
-ghost use Rattle.xk_base.specs.Tables.Circle.{id_at, is_pid, is_thread_id, same_thread, thread_ids};
+ghost use Rattle.xk_base.specs.Tables.Circle.{is_pid, is_thread_id, same_thread, thread_ids};
 ghost use Rattle.xk_base.specs.Tables.Counting.{put_at};
 ghost use Rattle.xk_base.specs.declared.ids.ThreadId.{ThreadId as Id};
-ghost use Rattle.xk_base.specs.declared.limits.TheConstants.{PROCESS_LIMIT};
+ghost use Rattle.xk_base.specs.declared.limits.TheConstants.{PROCESS_LIMIT, TID_LIMIT};
 ghost use Rattle.xk_base.specs.declared.records.What.TheVariants.{Reply as Replied};
 ghost use Rattle.kill_path.specs.Noted.{noted};
 ghost use Rattle.kill_path.specs.Telling.{is_receiver_of, is_served, told_to, words_for};
-ghost use Rattle.kill_path.specs.ThreadSets.{ids_of_all};
+ghost use Rattle.kill_path.specs.ThreadSets.{of_process};
 
-use crate::answered::{Answered, PLACES};
+use crate::answered::Answered;
 use syscall_codec::{Reply, reply_words};
-use thread_table::{Threads, id_at};
-use xk_base::limits::TID_LIMIT;
+use thread_table::Threads;
+use xk_base::limits::{PROCESS_LIMIT, TID_LIMIT};
 use xk_base::{Log, Pid, Serial, ThreadId, Tid, What, XousError};
 use xk_parts::answer;
 
@@ -72,28 +72,39 @@ fn words_for(served: Option<ThreadId>, id: ThreadId) -> [u32; 8]
     }
 }
 
-/// The thread at the place is answered, if it is to be, of which a record tells.
-fn tell_at(
+/// The thread is answered, of which a record tells.
+fn tell_thread(threads: &mut Threads, log: &mut Log, served: Option<ThreadId>, id: ThreadId)
+    requires { length log.old.records < log.old.room }
+    ensures after { threads_shown threads.new ≡ answered (answer_to id (words_for served id)) (threads_shown threads.old) }
+    ensures log { log.new ≡ log_with (Replied id (words_for served id) ∷ []) log.old }
+    ensures count { process_count threads.new ≡ process_count threads.old }
+{
+    let words = words_for(served, id);
+    answer(threads, id, words);
+    log.push(What::Reply(id, words));
+}
+
+/// Each thread of the process that is to be answered is, of which records tell in ascending order of tid.
+fn tell_process(
     threads: &mut Threads,
     log: &mut Log,
     noted_ids: &Answered,
     served: Option<ThreadId>,
-    place: usize,
+    pid: Pid,
 )
-    requires place { place < ids_of_all }
-    requires room { noted noted_ids.now (id_at place) ≡ true → length log.old.records < log.old.room }
-    ensures after { let id = id_at place in
-        let old = threads_shown threads.old in
-        threads_shown threads.new ≡ (if noted noted_ids.now id then answered (answer_to id (words_for served id)) old else old) }
-    ensures log { let id = id_at place in
-        log.new ≡ (if noted noted_ids.now id then log_with (Replied id (words_for served id) ∷ []) log.old else log.old) }
+    requires pid { is_pid PROCESS_LIMIT pid.0 ≡ true }
+    requires room { (id : Id) → of_process pid (noted noted_ids.now) id ≡ true → length log.old.records + TID_LIMIT ≤ log.old.room }
+    ensures after { let told = told_to served (of_process pid (noted noted_ids.now)) in
+        threads_shown threads.new ≡ answered told (threads_shown threads.old) }
+    ensures log { let told = told_to served (of_process pid (noted noted_ids.now)) in
+        log.new ≡ log_with (replies PROCESS_LIMIT told) log.old }
     ensures count { process_count threads.new ≡ process_count threads.old }
 {
-    if noted_ids.has_at(place) {
-        let id = id_at(place);
-        let words = words_for(served, id);
-        answer(threads, id, words);
-        log.push(What::Reply(id, words));
+    let mut from = 1;
+    while let Some(tid) = noted_ids.least_from(pid, from) {
+        let id = ThreadId { pid, tid: Tid(tid) };
+        tell_thread(threads, log, served, id);
+        from = tid + 1;
     }
 }
 
@@ -111,7 +122,7 @@ pub(crate) fn tell(
     ensures log { log.new ≡ log_with (replies (process_count threads.old) (told_to served (noted noted_ids.now))) log.old }
     ensures count { process_count threads.new ≡ process_count threads.old }
 {
-    for place in 0..PLACES {
-        tell_at(threads, log, noted_ids, served, place);
+    for row in 0..PROCESS_LIMIT {
+        tell_process(threads, log, noted_ids, served, Pid(row as u8 + 2));
     }
 }

@@ -18,10 +18,15 @@ use Rattle.xk_base.specs.Log.{LogState}
 use Rattle.xk_base.specs.Tables.Circle.{id_at, is_thread_id, listed_ids, place_of, same_thread, thread_ids}
 use Rattle.xk_base.specs.Tables.Counting.{listed_below}
 use Rattle.xk_base.specs.declared.ids.ThreadId.{ThreadId}
+use Rattle.xk_base.specs.declared.limits.TheConstants.{PROCESS_LIMIT}
 use Rattle.xk_base.specs.declared.records.What.{What}
 use Rattle.xk_base.specs.declared.records.What.TheVariants.{Reply}
 use Rattle.kill_path.specs.Telling.{told_to, words_for}
-use Rattle.kill_path.specs.ThreadSets.{ThreadSet, ids_of_all}
+use Rattle.kill_path.specs.ThreadSets.{ThreadSet}
+
+-- how many ids there are, of as many processes as there can be
+abbrev pub ids_of_all : ℕ
+ids_of_all = thread_ids PROCESS_LIMIT
 
 -- the answers to the threads at the places below k
 abbrev pub below : ℕ → Answers → Answers
@@ -47,7 +52,7 @@ log_none l = λ i. record l { records = append-nil l.records i }
 
 -- ---- threads
 
-unanswered : (o : Option Thread) → option_map (with_answer None) o ≡ o
+pub unanswered : (o : Option Thread) → option_map (with_answer None) o ≡ o
 unanswered None = refl
 unanswered (Some t) = refl
 
@@ -161,6 +166,21 @@ module _ (n : ℕ) (answers : Answers) (known : (id : ThreadId) → is_some (ans
             ≡ option_map (with_answer (if same_thread id (id_at k) then Some words else None)) (option_map (with_answer (below k answers id)) (threads id))
         at id = by_place id (cases_eq (place_of id) k)
 
+  -- nobody is answered at the places from a on, up to b
+  pub none_between : (a b : ℕ) → a ≤ b → (threads : ThreadMap) → ((j : ℕ) → a ≤ j → j < b → answers (id_at j) ≡ None)
+      → answered (below b answers) threads ≡ answered (below a answers) threads
+  none_between a b order threads none =
+      let whole : a + (b - a) ≡ b = omega (arith, order) in
+      sym (ap (λ k. answered (below k answers) threads) whole) ∙ go (b - a) (λ j low high. none j low (omega (arith, high, whole)))
+    where
+      go : (more : ℕ) → ((j : ℕ) → a ≤ j → j < a + more → answers (id_at j) ≡ None) → answered (below (a + more) answers) threads ≡ answered (below a answers) threads
+      go zero h = let same : a + 0 ≡ a = omega arith in ap (λ k. answered (below k answers) threads) same
+      go (suc more) h =
+          let next : a + suc more ≡ suc (a + more) = omega arith in
+          ap (λ k. answered (below k answers) threads) next
+          ∙ none_more (a + more) threads (h (a + more) (omega arith) (omega arith))
+          ∙ go more (λ j low high. h j low (omega (arith, high)))
+
   -- ---- records
 
   pub no_record : (k : ℕ) → answers (id_at k) ≡ None → replies_below (suc k) answers ≡ replies_below k answers
@@ -178,6 +198,20 @@ module _ (n : ℕ) (answers : Answers) (known : (id : ThreadId) → is_some (ans
       ∙ map-append (λ id. Reply id (unwrap_or (answers id) [])) (map id_at (listed_below k (λ j. is_some (answers (id_at j))))) (id_at k ∷ [])
       ∙ ap (λ o. replies_below k answers ++ Reply (id_at k) (unwrap_or o []) ∷ []) some
 
+  pub no_records_between : (a b : ℕ) → a ≤ b → ((j : ℕ) → a ≤ j → j < b → answers (id_at j) ≡ None)
+      → replies_below b answers ≡ replies_below a answers
+  no_records_between a b order none =
+      let whole : a + (b - a) ≡ b = omega (arith, order) in
+      sym (ap (λ k. replies_below k answers) whole) ∙ go (b - a) (λ j low high. none j low (omega (arith, high, whole)))
+    where
+      go : (more : ℕ) → ((j : ℕ) → a ≤ j → j < a + more → answers (id_at j) ≡ None) → replies_below (a + more) answers ≡ replies_below a answers
+      go zero h = let same : a + 0 ≡ a = omega arith in ap (λ k. replies_below k answers) same
+      go (suc more) h =
+          let next : a + suc more ≡ suc (a + more) = omega arith in
+          ap (λ k. replies_below k answers) next
+          ∙ no_record (a + more) (h (a + more) (omega arith) (omega arith))
+          ∙ go more (λ j low high. h j low (omega (arith, high)))
+
   none_past : (j : ℕ) → thread_ids n ≤ j → is_some (answers (id_at j)) ≡ false
   none_past j high = go (is_some (answers (id_at j))) refl
     where
@@ -187,12 +221,6 @@ module _ (n : ℕ) (answers : Answers) (known : (id : ThreadId) → is_some (ans
           let low : place_of (id_at j) < thread_ids n = place_of-bound n (id_at j) (known (id_at j) e) in
           let at : place_of (id_at j) ≡ j = place_of-id_at j in
           absurd (omega arith)
-
-  pub place_low : (k : ℕ) → is_some (answers (id_at k)) ≡ true → k < thread_ids n
-  place_low k e =
-      let low : place_of (id_at k) < thread_ids n = place_of-bound n (id_at k) (known (id_at k) e) in
-      let at : place_of (id_at k) ≡ k = place_of-id_at k in
-      omega arith
 
   listed_more : (more : ℕ) → listed_below (more + thread_ids n) (λ j. is_some (answers (id_at j))) ≡ listed_below (thread_ids n) (λ j. is_some (answers (id_at j)))
   unfolding listed_below
@@ -245,21 +273,6 @@ module _ (n : ℕ) (answers : Answers) (known : (id : ThreadId) → is_some (ans
             ∙ ap (λ told. log_with told before) (sym (one_record k words q))
         go false q r = r ∙ e ∙ ap (λ told. log_with told before) (sym (no_record k q))
 
-  -- there is room for one more record
-  pub room_left : (k : ℕ) (before now : LogState) → now ≡ log_with (replies_below k answers) before → is_some (answers (id_at k)) ≡ true
-      → length before.records + thread_ids n ≤ before.room → length now.records < now.room
-  room_left k before now e some room =
-      let same_room : now.room ≡ before.room = ap (λ (l : LogState). l.room) e in
-      let a : length now.records ≡ length (before.records ++ map (record_of before.step) (replies_below k answers)) = ap (λ (l : LogState). length l.records) e in
-      let b : length (before.records ++ map (record_of before.step) (replies_below k answers))
-      ≡ length before.records + length (map (record_of before.step) (replies_below k answers)) =
-      length-append before.records (map (record_of before.step) (replies_below k answers)) in
-      let c : length (map (record_of before.step) (replies_below k answers)) ≡ length (replies_below k answers) =
-      length-map (replies_below k answers) (record_of before.step) in
-      let d : length (replies_below k answers) ≤ k = records_few k in
-      let f : k < thread_ids n = place_low k some in
-      omega arith
-
 -- whoever is told is noted
 pub told_noted : (served : Option ThreadId) (noted : ThreadSet) (id : ThreadId) → is_some (told_to served noted id) ≡ true → noted id ≡ true
 told_noted served noted id e = go (noted id) e
@@ -267,6 +280,3 @@ told_noted served noted id e = go (noted id) e
     go : (b : Bool) → is_some {T = List ℕ} (if b then Some (words_for served id) else None) ≡ true → b ≡ true
     go true q = refl
     go false q = q
-
-pub noted_told : (served : Option ThreadId) (noted : ThreadSet) (id : ThreadId) → noted id ≡ true → is_some (told_to served noted id) ≡ true
-noted_told served noted id e = ap (λ b. is_some {T = List ℕ} (if b then Some (words_for served id) else None)) e

@@ -4,4 +4,4 @@ use Rattle.kill_path.proofs.answered.Answered.new.Goals as goal
 
 pub returns : goal.returns
 unfolding noted
-returns c = marked-nobody 1984
+returns c = marked-nobody 64
