@@ -1,11 +1,12 @@
 //! The atomic instruction of a word.
 
-ghost use Rattle.std.specs.Prelude.{◌≡◌, MatchOption};
+ghost use Rattle.std.specs.Prelude.{◌≡◌, ◌==◌, if◌then◌else◌, MatchOption, None};
 ghost use Rattle.std.specs.Option.{option_map};
 ghost use Rattle.machine_model.specs.Hart.Atomics.{atomic_at};
+ghost use Rattle.rv32_words.specs.Reading.{funct3_of};
 ghost use Rattle.rv32_atomics.specs.declared.atomic.Atomic.{Atomic};
 ghost use Rattle.rv32_atomics.specs.Meaning.{meaning};
-ghost use Rattle.rv32_atomics.specs.Reading.{reading, variant};
+ghost use Rattle.rv32_atomics.specs.Reading.{fields_at, reading, variant};
 ghost use Rattle.rv32_atomics.specs.Table.{Spells};
 
 use crate::atomic::Atomic;
@@ -33,13 +34,26 @@ pub fn decode_atomic(word: u32) -> Option<Atomic>
     read(word)
 }
 
-/// The table, read by the word's fields.
+/// The table, read by the word's fields. The opcode is looked at by itself: where it is another one, and
+/// so for most words, no more is done.
 #[inline(always)]
 #[tactic(auto, unfolding(crate::specs::Reading::reading))]
 fn read(word: u32) -> Option<Atomic>
     ensures { result ≡ reading word }
 {
-    if word & 0x7f == AMO && (word >> 12) & 0x7 == WORD {
+    if word & 0x7f == AMO {
+        by_width(word)
+    } else {
+        None
+    }
+}
+
+/// A word of opcode AMO.
+#[inline(never)]
+fn by_width(word: u32) -> Option<Atomic>
+    ensures { result ≡ (if funct3_of word == 0b010 then variant (fields_at word) else None) }
+{
+    if (word >> 12) & 0x7 == WORD {
         variant(fields_at(word))
     } else {
         None
@@ -47,7 +61,6 @@ fn read(word: u32) -> Option<Atomic>
 }
 
 /// The instruction of these fields.
-#[inline(never)]
 fn variant(f: Fields) -> Option<Atomic>
     ensures { result ≡ variant f }
 {

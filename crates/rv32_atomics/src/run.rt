@@ -101,7 +101,7 @@ pub fn run_or_leave<U: UserMemory>(
 {
     match mem.fetch(pc) {
         Ok(Some(word)) => match decode_atomic(word) {
-            Some(atomic) => perform_or_leave(atomic, regs, pc, reserved, mem),
+            Some(atomic) => rebuilt(perform_or_leave(atomic, regs, pc, reserved, mem)),
             // It writes no register where it stores to a device.
             None => run_word(word, regs, pc, mem),
         },
@@ -183,6 +183,29 @@ fn perform_or_leave<U: UserMemory>(
         *reserved = reserved_before;
     }
     ran
+}
+
+/// The same answer, built anew. `perform_or_leave` isn't inlined and writes its answer to memory; so that
+/// memory isn't also where the answers of other instructions stand, which can then stay in registers.
+#[inline(always)]
+fn rebuilt(ran: Ran) -> Ran
+    ensures { result ≡ ran }
+{
+    match ran {
+        Ran::Next(next) => Ran::Next(next),
+        Ran::Ecall => Ran::Ecall,
+        Ran::Trap { cause, value } => Ran::Trap { cause, value },
+        Ran::Device {
+            offset,
+            value,
+            next,
+        } => Ran::Device {
+            offset,
+            value,
+            next,
+        },
+        Ran::Failed => Ran::Failed,
+    }
 }
 
 /// Whether the thread goes on, and stored to no device.

@@ -29,7 +29,8 @@ pub returns-in-Some-clause-performs : goal.returns-in-Some-clause-performs
 returns-in-Some-clause-performs g c =
     let gives = rw c.in-Ok-Some.field-0-is at c.in-Ok-Some.ensures.gives in
     let ran = c.perform_or_leave.ensures.executes in
-    record {
+    rw c.rebuilt.ensures
+    (record {
       done = ran.done;
       does = performs_atomic (g.U.UserMemory.may c.args.mem.now) (g.U.UserMemory.console c.args.mem.now) (g.U.UserMemory.timer c.args.mem.now) _ _ ran.done.regs _ ran.done.reserved _ _
           c.args.pc c.in-Ok-Some.word (meaning c.in-Some.atomic) c.perform_or_leave.result gives.0 gives.1 c.fetch.ensures.kept
@@ -37,7 +38,7 @@ returns-in-Some-clause-performs g c =
           ran.does.1
           (rw (c.fetch.ensures.may, c.fetch.ensures.console, c.fetch.ensures.timer) at ran.does.0);
       core = ran.core;
-    }
+    })
 
 pub returns-in-None-clause-performs : goal.returns-in-None-clause-performs
 returns-in-None-clause-performs g c =
