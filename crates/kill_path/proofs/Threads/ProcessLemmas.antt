@@ -1,5 +1,5 @@
 -- The threads of one process that are answered, as part of all in ascending order.
-use Rattle.std.proofs.Common.{◌≡◌, ℕ, zero, suc, ◌+◌, ◌-◌, ◌*◌, ◌/◌, ◌%◌, ◌<◌, ◌≤◌, Bool, true, false, List, [], ◌∷◌, ◌++◌, length, map, Option, Some, None, refl, sym, ap, ◌∙◌, arith, append_assoc, append-nil, inl, inr}
+use Rattle.std.proofs.Common.{◌≡◌, ℕ, zero, suc, ◌+◌, ◌-◌, ◌*◌, ◌<◌, ◌≤◌, Bool, true, false, List, [], ◌∷◌, ◌++◌, length, map, Option, Some, None, refl, sym, ap, ◌∙◌, arith, append_assoc, append-nil, inl, inr}
 use Rattle.std.specs.Prelude.{◌≢◌, ◌⊎◌, ◌==◌, ◌&&◌, is_some, nat_lt, if◌then◌else◌}
 use Rattle.std.specs.Option.{option_map}
 use Rattle.std.proofs.lemmas.Bool.{cases_eq, cases_lt, eq-eqb, eqb-true, false≢true, le-ltb, lt-ltb, ne_eqb}
@@ -11,7 +11,7 @@ use Rattle.machine_model.specs.State.Threads.{Answers, answer_to, with_answer}
 use Rattle.machine_model.specs.Stepping.Step.{record_of}
 use Rattle.send_path.specs.Rows.{log_with}
 use Rattle.xk_parts.specs.Threads.{ThreadMap, answered}
-use Rattle.xk_base.proofs.CircleLemmas.{id_at-place_of, is_pid-bounds, place_of-id_at, same_ids}
+use Rattle.xk_base.proofs.CircleLemmas.{is_pid-bounds, same_ids}
 use Rattle.xk_base.specs.Log.{LogState}
 use Rattle.xk_base.specs.Tables.Circle.{id_at, is_pid, is_thread_id, place_of, thread_ids}
 use Rattle.xk_base.specs.declared.ids.Pid.{Pid}
@@ -171,7 +171,7 @@ module _ (served : Option ThreadId) (set : ThreadSet) (known : (id : ThreadId) �
           → after ≡ answered (answer_to (thread_of pid tid) (words_for served (thread_of pid tid))) now
           → after ≡ answered (below (place_in next) mine) before
       threads_on before now after e f =
-          threads_next PROCESS_LIMIT mine mine_known most (place_in tid) (place_in next) one_on (words_for served (id_at (place_in tid))) true told before now after
+          threads_next PROCESS_LIMIT mine mine_known most (place_in tid) (place_in next) one_on (words_for served (id_at (place_in tid))) told before now after
           (e ∙ sym (threads_past from tid some (omega (arith, few)) none order before))
           (f ∙ ap (λ id. answered (answer_to id (words_for served id)) now) (sym there))
 
@@ -179,7 +179,7 @@ module _ (served : Option ThreadId) (set : ThreadSet) (known : (id : ThreadId) �
           → after ≡ log_with (Reply (thread_of pid tid) (words_for served (thread_of pid tid)) ∷ []) now
           → after ≡ log_with (replies_below (place_in next) mine) before
       log_on before now after e f =
-          log_next PROCESS_LIMIT mine mine_known most (place_in tid) (place_in next) one_on (words_for served (id_at (place_in tid))) true told before now after
+          log_next PROCESS_LIMIT mine mine_known most (place_in tid) (place_in next) one_on (words_for served (id_at (place_in tid))) told before now after
           (e ∙ ap (λ rs. log_with rs before) (sym (records_past from tid some (omega (arith, few)) none order)))
           (f ∙ ap (λ id. log_with (Reply id (words_for served id) ∷ []) now) (sym there))
 

@@ -3,7 +3,7 @@ use Rattle.std.proofs.Common.{◌≡◌, ℕ, zero, suc, ◌+◌, ◌<◌, ◌�
 use Rattle.std.specs.Prelude.{◌≢◌, ◌⊎◌, ◌-◌, is_some, nat_lt, unwrap_or, if◌then◌else◌}
 use Rattle.std.specs.Option.{option_map}
 use Rattle.std.proofs.lemmas.Bool.{cases_eq, false≢true, le-ltb, lt-ltb, ltb-false, ltb-true}
-use Rattle.std.proofs.lemmas.List.{length-append, length-map, map-append}
+use Rattle.std.proofs.lemmas.List.{length-map, map-append}
 use Rattle.machine_laws.proofs.Threading.ThreadAnswerLemmas.{same_thread-self}
 use Rattle.machine_laws.proofs.Threading.ThreadPutLemmas.{alike}
 use Rattle.machine_model.specs.State.Changes.{replies}
@@ -131,10 +131,10 @@ module _ (n : ℕ) (answers : Answers) (known : (id : ThreadId) → is_some (ans
         by_place (inr ne) = same_below id ne
 
     -- the thread at the place isn't answered
-    pub none_more : answers (id_at k) ≡ None → answered (below (suc k) answers) threads ≡ answered (below k answers) threads
+    none_more : answers (id_at k) ≡ None → answered (below (suc k) answers) threads ≡ answered (below k answers) threads
     none_more none = λ i id. option_map (with_answer (none_more_at none id i)) (threads id)
 
-    pub one_more : (words : List ℕ) → answers (id_at k) ≡ Some words
+    one_more : (words : List ℕ) → answers (id_at k) ≡ Some words
         → answered (below (suc k) answers) threads ≡ answered (answer_to (id_at k) words) (answered (below k answers) threads)
     one_more words some = λ i id. at id i
       where
@@ -250,28 +250,19 @@ module _ (n : ℕ) (answers : Answers) (known : (id : ThreadId) → is_some (ans
       let d = count_below-bound k (λ j. is_some (answers (id_at j))) in
       omega arith
 
-  -- ---- at a place of the loop
+  -- ---- one more place, whose thread is answered
 
-  module _ (k next : ℕ) (counted : next ≡ suc k) (words : List ℕ) (b : Bool) (is : answers (id_at k) ≡ (if b then Some words else None)) where
+  module _ (k next : ℕ) (counted : next ≡ suc k) (words : List ℕ) (is : answers (id_at k) ≡ Some words) where
     pub threads_next : (before now after : ThreadMap) → now ≡ answered (below k answers) before
-        → after ≡ (if b then answered (answer_to (id_at k) words) now else now) → after ≡ answered (below next answers) before
-    threads_next before now after e f = go b is f ∙ ap (λ m. answered (below m answers) before) (sym counted)
-      where
-        go : (c : Bool) → answers (id_at k) ≡ (if c then Some words else None) → after ≡ (if c then answered (answer_to (id_at k) words) now else now)
-            → after ≡ answered (below (suc k) answers) before
-        go true q r = r ∙ ap (answered (answer_to (id_at k) words)) e ∙ sym (one_more k before words q)
-        go false q r = r ∙ e ∙ sym (none_more k before q)
+        → after ≡ answered (answer_to (id_at k) words) now → after ≡ answered (below next answers) before
+    threads_next before now after e f =
+        f ∙ ap (answered (answer_to (id_at k) words)) e ∙ sym (one_more k before words is) ∙ ap (λ m. answered (below m answers) before) (sym counted)
 
     pub log_next : (before now after : LogState) → now ≡ log_with (replies_below k answers) before
-        → after ≡ (if b then log_with (Reply (id_at k) words ∷ []) now else now) → after ≡ log_with (replies_below next answers) before
-    log_next before now after e f = go b is f ∙ ap (λ m. log_with (replies_below m answers) before) (sym counted)
-      where
-        go : (c : Bool) → answers (id_at k) ≡ (if c then Some words else None) → after ≡ (if c then log_with (Reply (id_at k) words ∷ []) now else now)
-            → after ≡ log_with (replies_below (suc k) answers) before
-        go true q r =
-            r ∙ ap (log_with (Reply (id_at k) words ∷ [])) e ∙ sym (log_both (replies_below k answers) (Reply (id_at k) words ∷ []) before)
-            ∙ ap (λ told. log_with told before) (sym (one_record k words q))
-        go false q r = r ∙ e ∙ ap (λ told. log_with told before) (sym (no_record k q))
+        → after ≡ log_with (Reply (id_at k) words ∷ []) now → after ≡ log_with (replies_below next answers) before
+    log_next before now after e f =
+        f ∙ ap (log_with (Reply (id_at k) words ∷ [])) e ∙ sym (log_both (replies_below k answers) (Reply (id_at k) words ∷ []) before)
+        ∙ ap (λ told. log_with told before) (sym (one_record k words is)) ∙ ap (λ m. log_with (replies_below m answers) before) (sym counted)
 
 -- whoever is told is noted
 pub told_noted : (served : Option ThreadId) (noted : ThreadSet) (id : ThreadId) → is_some (told_to served noted id) ≡ true → noted id ≡ true

@@ -1,4 +1,4 @@
-use Rattle.std.proofs.Common.{◌≡◌, ◌+◌, ◌*◌, refl, sym, ap, ◌∙◌, arith}
+use Rattle.std.proofs.Common.{◌≡◌, ◌*◌, refl, sym, ap, ◌∙◌, arith}
 use Rattle.xk_parts.specs.Shown.{threads_shown}
 use Rattle.send_path.specs.Rows.{log_with}
 use Rattle.xk_parts.specs.Threads.{answered}
