@@ -1,5 +1,4 @@
 -- Who is to be answered, and who is.
-pub mod BitLemmas
 pub mod MarkLemmas
 pub mod NotedLemmas
 pub mod ProcessLemmas

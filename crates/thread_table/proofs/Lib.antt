@@ -4,6 +4,6 @@ pub mod PlaceLemmas
 mod EmptyingLemmas
 mod LendingLemmas
 pub mod ReceiverLemmas
-mod TidLemmas
+pub mod TidLemmas
 pub mod MarkLemmas
 mod TurnLemmas

@@ -1,5 +1,5 @@
 use Rattle.std.proofs.Common.{rules, ◌<◌, ◌/◌, ◌^◌, arith}
-use Rattle.kill_path.proofs.Threads.BitLemmas.{least_few, least_has, none_before, none_from}
+use Rattle.thread_table.proofs.TidLemmas.{least_few, least_has, none_before, none_from}
 use Rattle.kill_path.proofs.answered.least_bit_from.Goals as goal
 
 pub returns-then-left-eq0-clause-none : goal.returns-then-left-eq0-clause-none
