@@ -89,7 +89,7 @@ def timed_steps(files):
 
 # Pages: more of them than frames, so that the pages of eight processes go round.
 
-FULL_PROCESSES, FULL_ZEROS = 8, 4_064
+FULL_PROCESSES, FULL_ZEROS, MORE_ROUNDS = 8, 4_064, 5
 FULL_PAGES = FULL_PROCESSES * (FULL_ZEROS + 10)
 FULL_FRAMES = RAM_BYTES // PAGE - TABLE_FRAMES * FULL_PROCESSES - 1
 GOES_OVER = over_pages(lui(COUNT, PAGE), addi(COUNT, COUNT, FULL_ZEROS - PAGE))
@@ -100,9 +100,10 @@ def full_memories(files):
     name = files.put("full", image(GOES_OVER, FULL_PROCESSES, FULL_ZEROS))
     slots = str(FULL_PAGES - FULL_FRAMES)
     rounds = [ONE_ROUND] * FULL_PROCESSES
-    more, fewer = (["trace", name, files.ticks(f"rounds{len(ticks)}", *ticks), LIMIT, slots] for ticks in (rounds + [ONE_ROUND], rounds))
+    # Enough exchanges more that they take as long as the boot.
+    more, fewer = (["trace", name, files.ticks(f"rounds{len(ticks)}", *ticks), LIMIT, slots] for ticks in (rounds * MORE_ROUNDS, rounds))
     text = f"an exchange of a page with {FULL_FRAMES:,} frames and {FULL_PAGES - FULL_FRAMES:,} slots in use"
-    yield Row(text, more, fewer, FULL_ZEROS, "us")
+    yield Row(text, more, fewer, (MORE_ROUNDS - 1) * FULL_PROCESSES * FULL_ZEROS, "us")
     none = files.put("none", b"")
     yield Row(f"a boot of {FULL_PAGES:,} pages, {FULL_FRAMES:,} of them in frames", ["trace", name, none, LIMIT, slots], None, 1, "ms")
     fitting = (FULL_FRAMES // FULL_PROCESSES) - 10
