@@ -2,29 +2,14 @@
 //! and a file of events, and writes the transcript.
 #![tactic(auto)]
 
-mod commands;
-mod converted;
-mod exchanged;
-mod matched;
-mod notes;
-mod resumed;
-mod saying;
-mod splits;
-mod status;
-#[cfg(test)]
-mod tests;
-mod top;
-
 pub use host_io::{ErrSink, FileHost, FileStore, StdSink};
 use host_io::{ProgramStore, RealDisk};
-use notes::write_note;
-use status::{Ended, Status};
 use std::io::ErrorKind;
 use std::process::ExitCode;
 use std::rt::Files;
 use std::{env, fs, io};
-use top::xous_main;
 use xk_ports::Sink;
+use xous_program::{Ended, Status, write_note, xous_main};
 
 /// Opens three files, which stay open as long as the answer lives.
 ///

@@ -1,0 +1,55 @@
+use Rattle.std.proofs.Common.{◌≡◌, ℕ, ap, ◌∙◌, subst, sym, refl, inr}
+use Rattle.machine_model.specs.State.Machine.{Machine}
+use Rattle.vm_memory.specs.Memory.{store_of}
+use Rattle.xk_base.specs.declared.limits.TheConstants.{DEFAULT_STEPS}
+use Rattle.machine_history.specs.History.{history}
+use Rattle.machine_history.specs.HistoryMoments.{moments_of}
+use Rattle.demo_load.specs.Events.{load_events, load_history, load_machine}
+use Rattle.demo_load.specs.Totals.{demo_line, totals_of}
+use Rattle.xous_program.specs.Outcome.Demo.{Demonstrates}
+use Rattle.xous_program.specs.Outcome.Sides.{SinkSide, sink_side, store_side}
+use Rattle.event_player.specs.Rooms.{ComesFull, Room}
+use Rattle.event_player.specs.Standing.{room_in}
+use Rattle.xous_program.specs.declared.status.Status.TheVariants.{SwapFault}
+use Rattle.xous_program.proofs.Images.StartingLemmas.{asked_on, load_told, rose_before}
+use Rattle.xous_program.proofs.commands.demo.play_demo.Goals as goal
+
+pub returns-in-Ok-play_load-clause-told : goal.returns-in-Ok-play_load-clause-told
+returns-in-Ok-play_load-clause-told g c =
+    let clients : ℕ = c.args.demo.clients in
+    let asked = g.W.SwapStore.asked in
+    let before = c.in-Ok.kernel in
+    let after = c.play_load.new.kernel in
+    let out : SinkSide = sink_side g.K.Sink c.args.out.now c.write_totals-status.new.out in
+    let S : g.row.W.Denot → Type 0 = λ store. Demonstrates clients out (store_side g.W.SwapStore c.args.store store) c.write_totals-status.result in
+    let line : demo_line clients c.in-Ok-play_load.totals ≡ demo_line clients (totals_of (load_history clients).records) =
+    ap (demo_line clients)
+    (c.in-Ok-play_load.ensures.counted
+    ∙ ap (λ (m : Machine). totals_of (history (load_events clients) DEFAULT_STEPS m).records) c.in-Ok.ensures.booted) in
+    subst S (sym c.close.ensures)
+    (inr (record {
+      prepared = asked_on (asked c.args.store) (asked (store_of before.mem)) (asked (store_of after.mem)) _ c.play_load.ensures.keeps.store.preparations c.in-Ok.ensures.prepared;
+      content = load_told clients out (store_side g.W.SwapStore c.args.store (store_of after.mem)) (demo_line clients c.in-Ok-play_load.totals) c.write_totals-status.result line c.write_totals-status.ensures.ended
+          c.write_totals-status.ensures.written c.write_totals-status.ensures.front;
+    }))
+
+pub returns-in-Err-play_load-clause-told : goal.returns-in-Err-play_load-clause-told
+returns-in-Err-play_load-clause-told g c =
+    let clients : ℕ = c.args.demo.clients in
+    let asked = g.W.SwapStore.asked in
+    let faults = g.W.SwapStore.faults in
+    let before = c.in-Ok.kernel in
+    let after = c.play_load.new.kernel in
+    let out : SinkSide = sink_side g.K.Sink c.args.out.now c.args.out.now in
+    let S : g.row.W.Denot → Type 0 = λ store. Demonstrates clients out (store_side g.W.SwapStore c.args.store store) SwapFault in
+    let R : Room → Type 0 = λ room. ComesFull room (load_machine clients) (moments_of (load_events clients) DEFAULT_STEPS (load_machine clients)) in
+    let M : Machine → Type 0 = λ m. ComesFull (room_in before) m (moments_of (load_events clients) DEFAULT_STEPS m) in
+    subst S (sym c.close-in-Err-play_load.ensures)
+    (inr (record {
+      prepared = asked_on (asked c.args.store) (asked (store_of before.mem)) (asked (store_of after.mem)) _ c.play_load.ensures.keeps.store.preparations c.in-Ok.ensures.prepared;
+      content = (
+        rose_before (faults c.args.store) (faults (store_of before.mem)) (faults (store_of after.mem)) c.in-Ok.ensures.count c.in-Err-play_load.ensures.cause,
+        subst R c.in-Ok.ensures.room (subst M c.in-Ok.ensures.booted c.in-Err-play_load.ensures.full),
+        refl,
+      );
+    }))

@@ -1,0 +1,55 @@
+use Rattle.std.proofs.Common.{ℕ, List, [], Option, refl, sym, subst, inl, inr, arith}
+use Rattle.vm_memory.specs.Memory.{size, store_of}
+use Rattle.xous_program.specs.Outcome.Starts.{Booted}
+use Rattle.event_player.specs.Gathering.{put}
+use Rattle.xous_program.specs.Outcome.Sides.{Call, SinkSide, host_side, sink_side, store_side}
+use Rattle.xous_program.specs.Outcome.Suspends.{EndsSuspend}
+use Rattle.host_io.specs.Reading.{IsTold}
+use Rattle.event_player.specs.Standing.{room_in}
+use Rattle.xous_program.specs.Words.{Suspend, suspend_in}
+use Rattle.xous_program.proofs.Outcome.SuspendLemmas.{ends_suspended}
+use Rattle.xous_program.proofs.Outcome.TopLemmas.{Before, begun_at}
+use Rattle.xous_program.proofs.commands.suspend.suspend_run.Goals as goal
+
+pub suspend_events-status-requires-clause-within : goal.suspend_events-status-requires-clause-within
+suspend_events-status-requires-clause-within g c = omega (arith, c.in-Ok.ensures.steps)
+
+pub returns-in-Ok-clause-ends : goal.returns-in-Ok-clause-ends
+returns-in-Ok-clause-ends g c =
+    let file = g.H.Host.file c.args.host.now in
+    let suspend : Suspend = suspend_in c.args.suspend in
+    let booted = c.in-Ok.ensures.booted in
+    let kernel = c.in-Ok.kernel in
+    let after = c.suspend_events-status.new.kernel in
+    let begin : Booted = record { machine = booted.0; room = room_in kernel; slots = (size kernel.mem).slots } in
+    let I : Option (List ℕ) → Type 0 = λ left. IsTold left [] in
+    let before : Before = record {
+      files_asked = g.H.Host.asked c.args.host.now;
+      host_faults = g.H.Host.faults c.args.host.now;
+      prepared = g.W.SwapStore.asked c.args.store;
+      store_faults = g.W.SwapStore.faults c.args.store;
+    } in
+    let call : Call = record {
+      host = host_side g.H.Host c.boot_with_sheet.new.host c.suspend_events-status.new.host;
+      out = sink_side g.K.Sink c.args.out.now c.suspend_events-status.new.out;
+      store = store_side g.W.SwapStore (store_of kernel.mem) (store_of after.mem);
+      status = c.suspend_events-status.result;
+    } in
+    let S : g.row.W.Denot → Type 0 = λ store. EndsSuspend suspend (record (begun_at file before call) {
+      store = store_side g.W.SwapStore c.args.store store;
+    }) in
+    subst S (sym c.close.ensures)
+    (ends_suspended suspend begin file before call
+    (store_side g.W.SwapStore c.args.store (store_of kernel.mem))
+    c.boot_with_sheet.ensures.file booted.2 refl refl c.suspend_events-status.ensures.keeps.store.preparations
+    (record { host = c.boot_with_sheet.ensures.never_falls; store = c.in-Ok.ensures.count }) c.in-Ok.ensures.picked
+    (subst I (sym c.suspend_events-status.ensures.first) c.in-Ok.ensures.end)
+    (c.suspend_events-status.ensures.played booted.0 (booted.1 (put (g.K.Sink.written c.args.out.now)))))
+
+pub returns-in-Err-clause-ends : goal.returns-in-Err-clause-ends
+returns-in-Err-clause-ends g c =
+    let out : SinkSide = sink_side g.K.Sink c.args.out.now c.args.out.now in
+    elim (c.in-Err.ensures.ends out refl) [
+      | inl refused ↦ inl refused
+      | inr unstarted ↦ inr (inl unstarted)
+    ]

@@ -1,0 +1,19 @@
+//! The program's commands: words in, a status and what the command writes out. `xous_main` is the top call of `xousim`.
+#![tactic(auto)]
+
+mod commands;
+mod converted;
+mod exchanged;
+mod matched;
+mod notes;
+mod resumed;
+mod saying;
+mod splits;
+mod status;
+#[cfg(test)]
+mod tests;
+mod top;
+
+pub use notes::write_note;
+pub use status::{Ended, Status};
+pub use top::xous_main;
