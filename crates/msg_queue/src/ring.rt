@@ -299,3 +299,6 @@ impl Ring {
         )
     }
 }
+
+#[cfg(test)]
+mod tests;
