@@ -38,3 +38,22 @@ pub fn next_ready(ready: &[bool], cursor: ThreadId) -> Option<ThreadId>
     }
     None
 }
+
+#[cfg(test)]
+mod tests {
+    use super::*;
+
+    #[test]
+    fn ids(rt: HostRuntime) {
+        let last = ThreadId {
+            pid: Pid(2),
+            tid: Tid(31),
+        };
+        let next = ThreadId {
+            pid: Pid(3),
+            tid: Tid(1),
+        };
+        assert_eq!(rt; id_at(30), last);
+        assert_eq!(rt; id_at(31), next);
+    }
+}
