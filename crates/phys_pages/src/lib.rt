@@ -9,3 +9,6 @@ mod ram;
 pub use infos::{LoanInfo, PageInfo, Seat};
 pub use owners::Owners;
 pub use ram::Ram;
+
+#[cfg(test)]
+mod tests;

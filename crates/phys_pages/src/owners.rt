@@ -128,3 +128,14 @@ impl Owners {
         let _ = &self.slots;
     }
 }
+
+// All of its fields: the first frame, and how many frames and slots.
+#[cfg(test)]
+pub(crate) fn parts(owners: &Owners) -> (Frame, usize, usize) {
+    let Owners {
+        first,
+        frames,
+        slots,
+    } = owners;
+    (*first, frames.len(), slots.len())
+}

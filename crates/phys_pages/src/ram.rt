@@ -134,3 +134,10 @@ impl Ram {
         are_bytes(self.bytes.as_slice());
     }
 }
+
+// All of its fields: the start, and how many bytes.
+#[cfg(test)]
+pub(crate) fn parts(ram: &Ram) -> (u32, usize) {
+    let Ram { start, bytes } = ram;
+    (*start, bytes.len())
+}
