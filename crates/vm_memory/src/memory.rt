@@ -76,3 +76,6 @@ pub enum Here {
         number: Number,
     },
 }
+
+#[cfg(test)]
+mod tests;
