@@ -122,12 +122,16 @@ def checks_of_edits(folder):
 
 
 def checks_of_same_edits(wrong_edits, crate):
-    """Two edits that make the same code, and two that don't."""
+    """Two edits that make the same code, and two that don't, in one folder and in both."""
     (crate / "must-fail/first.edit").write_text(EDIT)
-    for text, is_same in ((EDIT.replace("two", "five"), False), (EDIT + "old: two\nnew:  two\n", True)):
-        (crate / "must-fail/second.edit").write_text(text)
-        told = ["edited/must-fail/second.edit: it makes the same code as first.edit"] * is_same
-        yield list(wrong_edits(crate)) == told, f"a second edit {text!r}"
+    (crate / "wrong-bodies").mkdir()
+    for folder in ("must-fail", "wrong-bodies"):
+        for text, is_same in ((EDIT.replace("two", "five"), False), (EDIT + "old: two\nnew:  two\n", True)):
+            second = crate / folder / "second.edit"
+            second.write_text(text)
+            told = [f"edited/{folder}/second.edit: it makes the same code as must-fail/first.edit"] * is_same
+            yield list(wrong_edits(crate)) == told, f"a second edit {text!r} in {folder}"
+            second.unlink()
 
 
 def checks_of_fields():
