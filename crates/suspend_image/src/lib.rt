@@ -21,3 +21,6 @@ pub use writing::rows::{
 };
 pub use writing::sheet::Sheet;
 pub use writing::{begin_state, finish_state};
+
+#[cfg(test)]
+mod tests;
