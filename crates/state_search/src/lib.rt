@@ -11,6 +11,3 @@ mod space;
 pub use found::{Cut, Edge, Extent, Found, path_to};
 pub use searching::search;
 pub use space::{Followed, Progress, Space, Successor, Unanswered, Watch};
-
-#[cfg(test)]
-mod tests;

@@ -2,7 +2,9 @@
 
 ghost use Rattle.std.specs.Prelude.{◌≡◌, IfOk, [], ◌∷◌};
 
-use super::*;
+use state_search::{
+    Cut, Extent, Followed, Progress, Space, Successor, Unanswered, Watch, path_to, search,
+};
 use std::alloc::{AllocError, Global};
 use std::test::Fail;
 

@@ -2,7 +2,7 @@ use Rattle.std.proofs.Common.{◌≡◌, ℕ, List, [], ◌∷◌, Option, Some,
 use Rattle.std.specs.Prelude.{slice_get}
 use Rattle.state_search.specs.declared.space.Successor.{Successor}
 use Rattle.state_search.specs.Edges.{AreEdges}
-use Rattle.state_search.proofs.tests.RingSpace.successors.Goals as goal
+use Rattle.search_tests.proofs.ring.RingSpace.successors.Goals as goal
 
 -- the only edge leads on
 only_edge : (edges : List (Successor (Unit {0}) ℕ)) (key : ℕ) (node : Unit {0}) → edges ≡ (record { label = tt; key = key }) ∷ []
