@@ -134,16 +134,7 @@ def checks_of_same_edits(wrong_edits, crate):
             second.unlink()
 
 
-def checks_of_fields():
-    fields_of = load("check-fields").fields_of
-    text = "pub struct Ram {\n    start: u32,\n    // Zeros first.\n    bytes: Vec<u8>,\n}\n"
-    yield fields_of(text, "Ram") == "start: u32, bytes: Vec<u8>", "the fields of a type"
-    yield fields_of(text.replace("    //", "    rights: Vec<u8>,\n    //"), "Ram") == "start: u32, rights: Vec<u8>, bytes: Vec<u8>", "a field more"
-    yield fields_of(text, "Owners") is None, "a type that isn't there"
-
-
 def checks(_program, folder):
     yield from checks_of_copies()
     yield from checks_of_edits(folder)
-    yield from checks_of_fields()
     yield from checks_of_start(folder)
