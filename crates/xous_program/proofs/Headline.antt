@@ -1,4 +1,3 @@
 pub mod CommandLemmas
 pub mod LawLemmas
-pub mod OnceLemmas
 pub mod RunLemmas

@@ -1,10 +1,5 @@
-pub mod BegunLemmas
-pub mod ExchangedCallLemmas
 pub mod Headline
 pub mod Images
 pub mod Outcome
 pub mod Output
 pub mod ReserverLemmas
-pub mod ResumedLemmas
-pub mod Splitting
-pub mod Suspended

@@ -8,12 +8,13 @@ use Rattle.xk_ports.specs.declared.host.FileSlot.TheVariants.{Second}
 use Rattle.xk_ports.specs.Told.{Grows, GrowsByProperPrefix}
 use Rattle.event_player.specs.declared.ending.Ending.{Ending}
 use Rattle.event_player.specs.declared.ending.Ending.TheVariants.{Played, LimitMet, BadLine}
-use Rattle.xous_program.specs.declared.status.Status.{Status}
-use Rattle.xous_program.specs.declared.status.Status.TheVariants.{Done, ReadFault, WriteFault, EventFault, StepLimit}
-use Rattle.xous_program.specs.declared.status.Status.TheVariants.{SwapFault}
+use Rattle.program_status.specs.declared.status.Status.{Status}
+use Rattle.program_status.specs.declared.status.Status.TheVariants.{Done, ReadFault, WriteFault, EventFault, StepLimit}
+use Rattle.program_status.specs.declared.status.Status.TheVariants.{SwapFault}
 use Rattle.xous_program.specs.Outcome.Images.{Image, plan_in}
 use Rattle.xous_program.specs.Outcome.Plays.{HasCause, Tells}
-use Rattle.xous_program.specs.Outcome.Sides.{Call, HostRose, IsUnwritten, Prepares, SinkSide, StoreRose, StoreSide, Told}
+use Rattle.xous_program.specs.Outcome.Sides.{Call, HostRose, IsUnwritten, Prepares, StoreRose, StoreSide, Told}
+use Rattle.program_status.specs.Notes.{SinkSide}
 use Rattle.xous_program.specs.Outcome.Starts.{Booted, room_of}
 use Rattle.xous_program.specs.Outcome.States.{StateFile, room_from}
 use Rattle.xous_program.specs.Outcome.Suspends.{Saves, silent}

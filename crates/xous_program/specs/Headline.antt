@@ -17,8 +17,8 @@ use Rattle.xous_program.specs.Outcome.Fronts.{IsKnown, IsReadOut, WritesFront, W
 use Rattle.xous_program.specs.Outcome.Says.{Gives, HasFault, Run, Says}
 use Rattle.xous_program.specs.Outcome.Sides.{Call, HostRose, IsUnwritten, OutRose, StoreRose}
 use Rattle.xous_program.specs.Words.{Command}
-use Rattle.xous_program.specs.declared.status.Status.{Status}
-use Rattle.xous_program.specs.declared.status.Status.TheVariants.{Done, Usage, ReadFault, WriteFault, SwapFault, ImageFault, NoMemory}
+use Rattle.program_status.specs.declared.status.Status.{Status}
+use Rattle.program_status.specs.declared.status.Status.TheVariants.{Done, Usage, ReadFault, WriteFault, SwapFault, ImageFault, NoMemory}
 
 -- WHOLE: the status is what the files say of the command, and exactly the text that they say was written; at Done they were read out.
 pub record IsWhole (command : Command) (call : Call) : Type 0 where

@@ -1,12 +1,7 @@
-pub mod ExchangedCalls
 pub mod Finish
 pub mod Headline
+pub mod Notes
 pub mod Outcome
-pub mod Resumed
-pub mod SplitCalls
-pub mod Splits
 pub mod StateFiles
-pub mod Status
 pub mod Summary
-pub mod SuspendedCalls
 pub mod Words

@@ -10,6 +10,5 @@ pub mod Check
 pub mod Convert
 pub mod Demo
 pub mod Ends
-pub mod Known
 pub mod Says
 pub mod Fronts

@@ -2,6 +2,7 @@
 use Rattle.std.specs.Prelude.{◌≡◌, ◌<◌, ◌≤◌, ◌⊎◌, ℕ, nat_lt, MatchBool, List, length}
 use Rattle.kernel_args.specs.declared.faults.ArgFault.{ArgFault}
 use Rattle.boot_plan.specs.FaultNumbers.{too_long}
+use Rattle.program_status.specs.FaultNames.{bad_split}
 use Rattle.machine_model.specs.State.Machine.{Machine}
 use Rattle.state_rows.specs.declared.state.State.{State}
 use Rattle.suspend_image.specs.FileFaults.{IsFirstFault}
@@ -28,9 +29,6 @@ pub record Restores (file : List ℕ) (slots : ℕ) (machine : Machine) : Type 0
 -- ---- faults
 
 -- there are as many slots as there may be pages, or more frames than RAM may have
-abbrev pub bad_split : ℕ
-bad_split = 25
-
 abbrev pub IsBadSplit : State → ℕ → Type 0
 IsBadSplit state slots = (state.cap ≤ slots) ⊎ (FRAME_LIMIT < resumed_frames state slots)
 

@@ -2,13 +2,7 @@
 #![tactic(auto)]
 
 mod commands;
-mod converted;
-mod exchanged;
-mod matched;
 mod notes;
-mod resumed;
-mod saying;
-mod splits;
 mod status;
 #[cfg(test)]
 mod tests;

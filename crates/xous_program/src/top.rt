@@ -3,9 +3,10 @@
 ghost use Rattle.std.specs.Prelude.{◌≤◌, IfSome};
 ghost use Rattle.xous_program.specs.Outcome.Ends.{Ends};
 ghost use Rattle.xous_program.specs.Outcome.Says.{HasFewSlots};
-ghost use Rattle.xous_program.specs.Outcome.Sides.{Call, Notes, host_side, sink_side, store_side};
+ghost use Rattle.xous_program.specs.Outcome.Sides.{call_of, host_side, store_side};
+ghost use Rattle.program_status.specs.Notes.{Notes, sink_side};
 ghost use Rattle.xous_program.specs.Headline.{Headline};
-ghost use Rattle.xous_program.specs.Status.{note_of};
+ghost use Rattle.xous_program.specs.Notes.{note_of};
 ghost use Rattle.xous_program.specs.Words.{command_of};
 
 use crate::commands::check::check_image;
@@ -29,12 +30,8 @@ fn run_words<H: Host, K: Sink, W: SwapStore>(
     out: &mut K,
     store: W,
 ) -> Ended<W>
-    ensures ends { let call : Call = record {
-      host = host_side H.Host host.old host.new;
-      out = sink_side K.Sink out.old out.new;
-      store = store_side W.SwapStore store result.store;
-      status = result.status;
-    } in Ends (command_of words.now) call }
+    ensures ends { let call = call_of (host_side H.Host host.old host.new) (sink_side K.Sink out.old out.new)
+        (store_side W.SwapStore store result.store) result.status in Ends (command_of words.now) call }
     ensures few { IfSome (command_of words.now) HasFewSlots }
     ensures store { W.faults store ≤ W.faults result.store }
     ensures host { H.faults host.old ≤ H.faults host.new }
@@ -72,12 +69,9 @@ pub fn xous_main<H: Host, K: Sink, N: Sink, W: SwapStore>(
     notes: &mut N,
     store: W,
 ) -> Ended<W>
-    ensures ends { let call : Call = record {
-      host = host_side H.Host host.old host.new;
-      out = sink_side K.Sink out.old out.new;
-      store = store_side W.SwapStore store result.store;
-      status = result.status;
-    } in Ends (command_of words.now) call × Headline W.SwapStore (command_of words.now) call }
+    ensures ends { let call = call_of (host_side H.Host host.old host.new) (sink_side K.Sink out.old out.new)
+        (store_side W.SwapStore store result.store) result.status in
+        Ends (command_of words.now) call × Headline W.SwapStore (command_of words.now) call }
     ensures noted { Notes (sink_side N.Sink notes.old notes.new) (note_of result.status) }
     ensures store { W.faults store ≤ W.faults result.store }
     ensures host { H.faults host.old ≤ H.faults host.new }

@@ -3,14 +3,17 @@ use Rattle.std.proofs.Common.{◌≡◌, ◌≤◌, ◌⊎◌, inl, inr, ℕ, Bo
 use Rattle.std.specs.declared.cmp.Ordering.{Ordering}
 use Rattle.boot_plan.specs.ImageFault.{IsImageFault}
 use Rattle.host_io.specs.Reading.{IsFile}
+use Rattle.program_status.specs.Plans.{RefusesBytes}
+use Rattle.program_status.specs.declared.status.Status.{Status}
+use Rattle.program_status.specs.declared.status.Status.TheVariants.{Done, EventFault, ImageFault, NoMemory, ReadFault, StepLimit, SwapFault, Usage, WriteFault}
 use Rattle.xk_base.specs.Outside.{Rose}
 use Rattle.xk_ports.specs.Told.{Grows}
-use Rattle.xousorders.specs.Asked.{Asking, HostFiles, IsTooLong, RefusesBytes, RefusesEvents, RefusesImage, Stops}
+use Rattle.xousorders.specs.Asked.{Asking, HostFiles, IsTooLong, RefusesEvents, RefusesImage, Stops}
 use Rattle.xousorders.specs.Calls.{Command, Ends, IsUnwritten, Sides, TellsSearch}
-use Rattle.xousorders.specs.Statuses.{IsStopped, IsUnfiled, is_several, status_of}
+use Rattle.xousorders.specs.Outcomes.{IsStopped, IsUnfiled, is_several, outcome_of}
 use Rattle.xousorders.specs.declared.endings.Endings.{Endings}
-use Rattle.xousorders.specs.declared.status.Status.{Status}
-use Rattle.xousorders.specs.declared.status.Status.TheVariants.{Done, EventFault, ImageFault, NoMemory, ReadFault, Several, StepLimit, Usage, WriteFault}
+use Rattle.xousorders.specs.declared.outcome.Outcome.{Outcome}
+use Rattle.xousorders.specs.declared.outcome.Outcome.TheVariants.{Ended}
 
 -- ---- why nothing is told
 
@@ -33,7 +36,7 @@ module _ (files behind : HostFiles) (name : Option (List ℕ)) (old mid new : �
   events_refused ReadFault why = unread why
   events_refused NoMemory why = tt
   events_refused Done why = absurd why
-  events_refused Several why = absurd why
+  events_refused SwapFault why = absurd why
   events_refused Usage why = absurd why
   events_refused WriteFault why = absurd why
   events_refused (ImageFault fault) why = absurd why
@@ -46,19 +49,19 @@ module _ (files : HostFiles) (asking : Asking) (rose : Type 0) where
   image_stops ReadFault why = inl why
   image_stops NoMemory why = tt
   image_stops Done why = absurd why
-  image_stops Several why = absurd why
+  image_stops SwapFault why = absurd why
   image_stops Usage why = absurd why
   image_stops WriteFault why = absurd why
   image_stops (EventFault line) why = absurd why
   image_stops (StepLimit limit) why = absurd why
 
-  pub bytes_stop : (image bytes : List ℕ) → IsFile files asking.image image → bytes ≡ image → (status : Status) → RefusesBytes bytes status
+  pub bytes_stop : (image bytes : List ℕ) → IsFile files asking.image image → bytes ≡ image → (status : Status) → RefusesBytes bytes None status
       → Stops files asking rose status
   bytes_stop image bytes read same (ImageFault fault) why =
       (image, read, subst (λ (b : List ℕ). IsImageFault b None (Some fault)) same why)
   bytes_stop image bytes read same NoMemory why = tt
   bytes_stop image bytes read same Done why = absurd why
-  bytes_stop image bytes read same Several why = absurd why
+  bytes_stop image bytes read same SwapFault why = absurd why
   bytes_stop image bytes read same Usage why = absurd why
   bytes_stop image bytes read same ReadFault why = absurd why
   bytes_stop image bytes read same WriteFault why = absurd why
@@ -69,7 +72,7 @@ module _ (files : HostFiles) (asking : Asking) (rose : Type 0) where
   events_stop ReadFault why = why
   events_stop NoMemory why = tt
   events_stop Done why = absurd why
-  events_stop Several why = absurd why
+  events_stop SwapFault why = absurd why
   events_stop Usage why = absurd why
   events_stop WriteFault why = absurd why
   events_stop (ImageFault fault) why = absurd why
@@ -81,7 +84,7 @@ module _ (files : HostFiles) (asking : Asking) (rose : Type 0) where
   stopped_stops (EventFault line) why = tt
   stopped_stops NoMemory why = tt
   stopped_stops Done why = absurd why
-  stopped_stops Several why = absurd why
+  stopped_stops SwapFault why = absurd why
   stopped_stops Usage why = absurd why
   stopped_stops ReadFault why = absurd why
   stopped_stops WriteFault why = absurd why
@@ -92,9 +95,9 @@ module _ (files : HostFiles) (asking : Asking) (rose : Type 0) where
 module _ (cmp : List ℕ → List ℕ → Ordering) (command : Command) (sides : Sides) where
   -- with nothing told
   pub stops_end : IsUnwritten sides → (status : Status)
-      → Stops sides.files command.asking (Rose sides.host_faults sides.host_faults_after) status → Ends cmp command sides status
+      → Stops sides.files command.asking (Rose sides.host_faults sides.host_faults_after) status → Ends cmp command sides (Ended status)
   stops_end unwritten Done why = absurd why
-  stops_end unwritten Several why = absurd why
+  stops_end unwritten SwapFault why = absurd why
   stops_end unwritten WriteFault why = absurd why
   stops_end unwritten Usage why = record { unwritten = unwritten; stops = why }
   stops_end unwritten ReadFault why = record { unwritten = unwritten; stops = why }
@@ -104,11 +107,11 @@ module _ (cmp : List ℕ → List ℕ → Ordering) (command : Command) (sides :
   stops_end unwritten NoMemory why = record { unwritten = unwritten; stops = why }
 
   -- where an event file isn't written
-  pub unfiled_ends : IsUnwritten sides → (status : Status) → IsUnfiled status → Ends cmp command sides status
+  pub unfiled_ends : IsUnwritten sides → (status : Status) → IsUnfiled status → Ends cmp command sides (Ended status)
   unfiled_ends unwritten WriteFault why = inl unwritten
   unfiled_ends unwritten NoMemory why = record { unwritten = unwritten; stops = tt }
   unfiled_ends unwritten Done why = absurd why
-  unfiled_ends unwritten Several why = absurd why
+  unfiled_ends unwritten SwapFault why = absurd why
   unfiled_ends unwritten Usage why = absurd why
   unfiled_ends unwritten ReadFault why = absurd why
   unfiled_ends unwritten (ImageFault fault) why = absurd why
@@ -116,15 +119,15 @@ module _ (cmp : List ℕ → List ℕ → Ordering) (command : Command) (sides :
   unfiled_ends unwritten (StepLimit limit) why = absurd why
 
   -- with all told
-  pub told_ends : (text bytes : List ℕ) (endings : Endings) (status : Status) → TellsSearch cmp sides.files command text endings → bytes ≡ text
-      → Grows sides.written sides.written_after bytes → status ≡ status_of (is_several command.one (length endings.list.items))
-      → Ends cmp command sides status
-  told_ends text bytes endings status told same written is =
+  pub told_ends : (text bytes : List ℕ) (endings : Endings) (outcome : Outcome) → TellsSearch cmp sides.files command text endings → bytes ≡ text
+      → Grows sides.written sides.written_after bytes → outcome ≡ outcome_of (is_several command.one (length endings.list.items))
+      → Ends cmp command sides outcome
+  told_ends text bytes endings outcome told same written is =
       subst (Ends cmp command sides) (sym is) (go (is_several command.one (length endings.list.items)) refl)
     where
       exactly : Grows sides.written sides.written_after text
       exactly = subst (Grows sides.written sides.written_after) same written
 
-      go : (several : Bool) → is_several command.one (length endings.list.items) ≡ several → Ends cmp command sides (status_of several)
+      go : (several : Bool) → is_several command.one (length endings.list.items) ≡ several → Ends cmp command sides (outcome_of several)
       go true e = record { text = text; endings = endings; told = told; written = exactly; is = e }
       go false e = record { text = text; endings = endings; told = told; written = exactly; is = e }

@@ -4,14 +4,14 @@ use Rattle.boot_plan.specs.FirstPages.{plan_of}
 use Rattle.boot_plan.specs.ImageFault.{IsImageFault}
 use Rattle.boot_plan.specs.declared.plans.BootPlan.{BootPlan}
 use Rattle.host_io.specs.Reading.{IsFile}
-use Rattle.kernel_args.specs.Image.{Spells}
 use Rattle.kernel_args.specs.declared.args.Args.{Args}
 use Rattle.kernel_args.specs.declared.faults.ArgFault.{ArgFault}
 use Rattle.order_space.specs.declared.subject.Subject.{Subject}
 use Rattle.xk_base.specs.declared.events.Event.{Event}
 use Rattle.xk_base.specs.declared.limits.TheConstants.{EVENT_FILE_LIMIT, STEP_LIMIT}
-use Rattle.xousorders.specs.declared.status.Status.{Status}
-use Rattle.xousorders.specs.declared.status.Status.TheVariants.{EventFault, ImageFault, NoMemory, ReadFault, StepLimit}
+use Rattle.program_status.specs.Plans.{IsSoundImage}
+use Rattle.program_status.specs.declared.status.Status.{Status}
+use Rattle.program_status.specs.declared.status.Status.TheVariants.{EventFault, ImageFault, NoMemory, ReadFault, StepLimit}
 
 -- the files of the host by their names, where they are told
 abbrev pub HostFiles : Type 0
@@ -30,15 +30,10 @@ asking_of image before quantum once = record { image = image; before = before; q
 
 -- ---- files that are read
 
--- the image has no fault, and these are its arguments
-pub record IsSoundImage (image : List ℕ) (args : Args) : Type 0 where
-  pub spelled : Spells image args
-  pub no_fault : IsImageFault image None None
-
--- .. and this is its plan
+-- the image has no fault, and this is its plan
 pub record IsPlanOf (image : List ℕ) (plan : BootPlan) : Type 0 where
   pub args : Args
-  pub sound : IsSoundImage image args
+  pub sound : IsSoundImage image None args
   pub planned : plan ≡ plan_of args None
 
 -- the bytes of the event file that is played before, or none where there is none
@@ -65,12 +60,6 @@ HasFault files name fault = (image : List ℕ) × IsFile files name image × IsI
 abbrev pub IsTooLong : HostFiles → Option (List ℕ) → Type 0
 IsTooLong files None = ⊥
 IsTooLong files (Some name) = (bytes : List ℕ) × (EVENT_FILE_LIMIT < length bytes) × IsFile files name bytes
-
--- the bytes aren't an image without a fault, or there is no memory
-abbrev pub RefusesBytes : List ℕ → Status → Type 0
-RefusesBytes image (ImageFault fault) = IsImageFault image None (Some fault)
-RefusesBytes image NoMemory = Unit {0}
-RefusesBytes image status = ⊥
 
 -- the image isn't read: it is too long for one, the host failed, or there is no memory
 abbrev pub RefusesImage : HostFiles → List ℕ → Type 0 → Status → Type 0

@@ -5,6 +5,8 @@ use Rattle.std.specs.declared.cmp.Ordering.{Ordering}
 use Rattle.node_laws.specs.declared.moves.Move.{Move}
 use Rattle.node_laws.specs.declared.moves.Note.{Note}
 use Rattle.node_laws.specs.Searches.{IsSound, Telling}
+use Rattle.program_status.specs.declared.status.Status.{Status}
+use Rattle.program_status.specs.declared.status.Status.TheVariants.{Done, WriteFault}
 use Rattle.order_space.specs.declared.subject.Subject.{Subject}
 use Rattle.order_space.specs.Found.{DigestsTell, telling_of}
 use Rattle.order_space.specs.Quests.{searching_of}
@@ -19,10 +21,10 @@ use Rattle.xousorders.specs.Asked.{Asking, HostFiles, IsAsked, Stops, asking_of}
 use Rattle.xousorders.specs.Endings.{TellsAllEndings, TellsEndings}
 use Rattle.xousorders.specs.Lines.{endings_text, extent_line}
 use Rattle.xousorders.specs.Searched.{IsSearched}
-use Rattle.xousorders.specs.Statuses.{is_several}
+use Rattle.xousorders.specs.Outcomes.{is_several}
 use Rattle.xousorders.specs.declared.endings.Endings.{Endings}
-use Rattle.xousorders.specs.declared.status.Status.{Status}
-use Rattle.xousorders.specs.declared.status.Status.TheVariants.{Done, Several, WriteFault}
+use Rattle.xousorders.specs.declared.outcome.Outcome.{Outcome}
+use Rattle.xousorders.specs.declared.outcome.Outcome.TheVariants.{Ended, Several}
 use Rattle.xousorders.specs.declared.words.Words.{Words}
 
 -- what is asked for, how many steps an order has at most where steps count, and whether there is to be one ending at most
@@ -124,9 +126,13 @@ module _ (cmp : List ℕ → List ℕ → Ordering) where
     pub written : GrowsByProperPrefix sides.written sides.written_after text
     pub rose : Rose sides.out_faults sides.out_faults_after
 
-  -- **How a call ends**, by its status: with what a search found, in part where the sink failed, or with nothing told.
-  abbrev pub Ends : Command → Sides → Status → Type 0
-  Ends command sides Done = Tells command sides false
+  -- how a call ends with a status: with what a search found, in part where the sink failed, or with nothing told
+  abbrev pub EndsWith : Command → Sides → Status → Type 0
+  EndsWith command sides Done = Tells command sides false
+  EndsWith command sides WriteFault = IsUnwritten sides ⊎ TellsInPart command sides
+  EndsWith command sides status = EndsUntold command sides status
+
+  -- **How a call ends**: as its status says, or with a search that found more endings than there were to be.
+  abbrev pub Ends : Command → Sides → Outcome → Type 0
+  Ends command sides (Ended status) = EndsWith command sides status
   Ends command sides Several = Tells command sides true
-  Ends command sides WriteFault = IsUnwritten sides ⊎ TellsInPart command sides
-  Ends command sides status = EndsUntold command sides status

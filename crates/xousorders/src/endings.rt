@@ -6,9 +6,9 @@ ghost use Rattle.node_laws.specs.declared.moves.Note.TheVariants.{Ending as IsEn
 ghost use Rattle.order_space.specs.Found.{TellsOrders, telling_of};
 ghost use Rattle.order_space.specs.Quests.{searching_of};
 ghost use Rattle.xousorders.specs.Endings.{Adds, AreEndings, IsAt, Lists, NoneIs, looks_at};
-ghost use Rattle.xousorders.specs.Statuses.{IsStopped};
+ghost use Rattle.xousorders.specs.Outcomes.{IsStopped};
 
-use crate::status::{Status, stopped};
+use crate::outcome::stopped;
 use node_laws::{Move, Note};
 use order_space::{Quest, Stand};
 use seen_text::put_seen;

@@ -3,12 +3,12 @@
 ghost use Rattle.std.specs.Prelude.{◌≡◌, ◌++◌, IfErr, IfOk, OnOk, slice_get};
 ghost use Rattle.node_laws.specs.Moves.{Asked, events_of as events_in, events_of_move};
 ghost use Rattle.xousorders.specs.Files.{order_file, with_feed};
-ghost use Rattle.xousorders.specs.Statuses.{IsUnfiled};
+ghost use Rattle.xousorders.specs.Outcomes.{IsUnfiled};
 
 use crate::endings::Ending;
-use crate::status::Status;
 use event_lines::event_file;
 use node_laws::Move;
+use program_status::Status;
 use std::alloc::{AllocError, Global};
 use std::fs;
 use std::rt::Files;

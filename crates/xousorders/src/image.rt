@@ -1,49 +1,19 @@
 //! The image and the events before are read.
 
 ghost use Rattle.std.specs.Option.{option_copied};
-ghost use Rattle.std.specs.Prelude.{◌≡◌, ◌≤◌, All, IfErr, IfOk, None, Some, length};
-ghost use Rattle.boot_plan.specs.FirstPages.{plan_of};
-ghost use Rattle.boot_plan.specs.Lawful.{CanStart, IsLawfulPlan};
+ghost use Rattle.std.specs.Prelude.{◌≡◌, ◌≤◌, IfErr, IfOk, Some, length};
 ghost use Rattle.host_io.specs.Reading.{IsFile};
 ghost use Rattle.xk_base.specs.Outside.{Rose};
 ghost use Rattle.xk_base.specs.declared.limits.TheConstants.{IMAGE_LIMIT};
-ghost use Rattle.xousorders.specs.Asked.{IsBefore, IsSoundImage, RefusesBytes, RefusesEvents, RefusesImage};
+ghost use Rattle.xousorders.specs.Asked.{IsBefore, RefusesEvents, RefusesImage};
 
-use crate::status::Status;
-use boot_plan::{BootPlan, PlanError, TOO_LONG, plan};
+use boot_plan::TOO_LONG;
 use host_io::{Content, ReadError, read_file};
-use kernel_args::{ArgFault, Args, ArgsError, read_args};
+use kernel_args::ArgFault;
+use program_status::Status;
 use std::alloc::Global;
 use xk_base::limits::{EVENT_FILE_LIMIT, IMAGE_LIMIT};
 use xk_ports::{FileSlot, Host};
-
-/// The arguments of an image, and its plan.
-#[derive(Drop)]
-pub struct Planned {
-    pub args: Args,
-    pub plan: BootPlan,
-}
-
-/// The plan of the image of these bytes.
-pub fn plan_bytes(alloc: Global, bytes: &[u8]) -> Result<Planned, Status>
-    requires { length bytes.now ≤ IMAGE_LIMIT }
-    ensures image { IfOk result (λ planned. IsSoundImage bytes.now planned.args) }
-    ensures planned { IfOk result (λ planned. planned.plan ≡ plan_of planned.args None) }
-    ensures lawful { IfOk result (λ planned. IsLawfulPlan (length bytes.now) planned.plan) }
-    ensures can_start { IfOk result (λ planned. All CanStart planned.plan.procs) }
-    ensures refused { IfErr result (RefusesBytes bytes.now) }
-{
-    let args = match read_args(alloc, bytes) {
-        Ok(args) => args,
-        Err(ArgsError::Fault(fault)) => return Err(Status::ImageFault(fault)),
-        Err(ArgsError::NoMemory) => return Err(Status::NoMemory),
-    };
-    match plan(alloc, &args, bytes, None) {
-        Ok(plan) => Ok(Planned { args, plan }),
-        Err(PlanError::Fault(fault)) => Err(Status::ImageFault(fault)),
-        Err(PlanError::NoMemory) => Err(Status::NoMemory),
-    }
-}
 
 /// The bytes of the image of that name.
 pub fn read_image<H: Host>(alloc: Global, host: &mut H, name: &str) -> Result<Vec<u8>, Status>

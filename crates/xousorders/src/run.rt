@@ -11,18 +11,19 @@ ghost use Rattle.xousorders.specs.Calls.{Ends, TellsSearch, command_in, sides_of
 ghost use Rattle.xousorders.specs.Endings.{TellsAllEndings, TellsEndings};
 ghost use Rattle.xousorders.specs.Lines.{endings_text, extent_line};
 ghost use Rattle.xousorders.specs.Searched.{IsSearched};
-ghost use Rattle.xousorders.specs.Statuses.{IsStopped, IsUnfiled};
+ghost use Rattle.xousorders.specs.Outcomes.{IsStopped, IsUnfiled};
 
 use crate::answer::{put_endings, put_extent};
 use crate::endings::{Endings, endings_of};
 use crate::files::write_files;
-use crate::image::{Planned, plan_bytes, read_events, read_image};
-use crate::status::{Status, ended, stopped};
+use crate::image::{read_events, read_image};
+use crate::outcome::{Outcome, ended, stopped};
 use crate::watching::Teller;
 use crate::words::Words;
 use node_laws::{Move, Note};
 use order_choices::Orders;
 use order_space::{OrderFault, Quest, Subject, search_orders};
+use program_status::{Planned, Status, plan_bytes};
 use state_search::{Extent, Found, Watch};
 use std::alloc::{AllocError, Global};
 use std::rt::{Clock, Files};
@@ -127,7 +128,7 @@ fn quest_of<H: Host>(
         let rose = Rose (H.faults host.old) (H.faults host.new) in IfErr result (Stops (H.file host.old) asking rose) }
 {
     let file = read_image(alloc, host, image)?;
-    let planned = plan_bytes(alloc, &file)?;
+    let planned = plan_bytes(alloc, &file, None)?;
     let before = read_events(alloc, host, before)?;
     let Planned { args: _, plan } = planned;
     let orders = Orders {
@@ -203,7 +204,7 @@ pub fn run<R: Files + Clock, H: Host, K: Sink, N: Sink>(
     out: &mut K,
     notes: &mut N,
     is_seen: bool,
-) -> Status
+) -> Outcome
     requires { length words.once.items ≤ 255 }
     ensures { let sides = sides_of H.Host K.Sink host.old host.new out.old out.new in
         Ends ⟦<[u8; 32] as Ord>⟧.cmp (command_in words.entry) sides result }
@@ -213,14 +214,14 @@ pub fn run<R: Files + Clock, H: Host, K: Sink, N: Sink>(
     let mut teller = Teller::new(rt, notes, is_seen);
     let answer = match search_words(alloc, host, words, &mut teller) {
         Ok(answer) => answer,
-        Err(status) => return status,
+        Err(status) => return Outcome::Ended(status),
     };
     match write_orders(rt, alloc, folder, &answer) {
         Ok(()) => {}
-        Err(status) => return status,
+        Err(status) => return Outcome::Ended(status),
     }
     match put_all(out, answer.text.as_slice()) {
         Ok(()) => ended(one, &answer.told.endings),
-        Err(_) => Status::WriteFault,
+        Err(_) => Outcome::Ended(Status::WriteFault),
     }
 }

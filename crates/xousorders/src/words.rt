@@ -3,7 +3,7 @@
 ghost use Rattle.std.specs.Prelude.{◌≤◌, IfOk, IfSome, length};
 
 use event_text::read_digits;
-use std::alloc::{AllocError, Global};
+use std::alloc::Global;
 use xk_base::limits::STEP_LIMIT;
 use xk_base::{Event, Pid};
 

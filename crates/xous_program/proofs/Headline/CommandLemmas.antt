@@ -27,8 +27,8 @@ use Rattle.xous_program.specs.Outcome.States.{RefusesState, StateFile, room_from
 use Rattle.xous_program.specs.Outcome.Suspends.{EndsSuspend, Saves, saved_at, saved_of, silent}
 use Rattle.xous_program.specs.Summary.{summary_of}
 use Rattle.xous_program.specs.Words.{Check, Command, Plays, Checks, Converts, Demo, Suspends, Resumes, Play, Resume, Suspend}
-use Rattle.xous_program.specs.declared.status.Status.{Status}
-use Rattle.xous_program.specs.declared.status.Status.TheVariants.{Done, Usage, ReadFault, WriteFault, ImageFault, EventFault, StepLimit, SwapFault, NoMemory}
+use Rattle.program_status.specs.declared.status.Status.{Status}
+use Rattle.program_status.specs.declared.status.Status.TheVariants.{Done, Usage, ReadFault, WriteFault, ImageFault, EventFault, StepLimit, SwapFault, NoMemory}
 use Rattle.xous_program.proofs.Headline.RunLemmas.{PlaysSo, Three, known_over, refused_three, said_over, stopped_three, told_three, unpicked_three}
 
 -- nothing was written

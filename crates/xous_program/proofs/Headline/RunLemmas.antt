@@ -21,8 +21,8 @@ use Rattle.xous_program.specs.Outcome.Says.{Gives, HasFault, HasImageFault, Run,
 use Rattle.xous_program.specs.Outcome.Sides.{Call, HostRose, IsTrusted, IsUnwritten}
 use Rattle.xous_program.specs.Outcome.Starts.{Booted, KnowsPages, StopsIn}
 use Rattle.xous_program.specs.Words.{Command, Play}
-use Rattle.xous_program.specs.declared.status.Status.{Status}
-use Rattle.xous_program.specs.declared.status.Status.TheVariants.{Done, Usage, ReadFault, WriteFault, ImageFault, EventFault, StepLimit, SwapFault, NoMemory}
+use Rattle.program_status.specs.declared.status.Status.{Status}
+use Rattle.program_status.specs.declared.status.Status.TheVariants.{Done, Usage, ReadFault, WriteFault, ImageFault, EventFault, StepLimit, SwapFault, NoMemory}
 
 -- the three cases
 abbrev pub Three : Command → Call → Status → Type 0

@@ -9,9 +9,9 @@ use Rattle.kernel_args.specs.Loads.{is_load_outside}
 use Rattle.boot_plan.proofs.NoFaultLemmas.{IsFaultless, all_faultless}
 use Rattle.xk_ports.specs.declared.host.FileSlot.TheVariants.{First}
 use Rattle.xk_base.specs.declared.limits.TheConstants.{IMAGE_LIMIT, SLOT_LIMIT}
-use Rattle.xous_program.specs.declared.status.Status.TheVariants.{WriteFault}
+use Rattle.program_status.specs.declared.status.Status.TheVariants.{WriteFault}
 use Rattle.xous_program.specs.Outcome.Convert.{EndsConvert, Writes, conversion}
-use Rattle.xous_program.specs.Outcome.Images.{IsSoundImage}
+use Rattle.program_status.specs.Plans.{IsSoundImage}
 use Rattle.xous_program.specs.Outcome.Sides.{Call, OutRose}
 use Rattle.host_io.specs.Reading.{Asked, IsFile, IsTold}
 use Rattle.xous_program.proofs.Images.MatchedLemmas.{no_plan_fault}

@@ -6,21 +6,15 @@ use Rattle.boot_plan.specs.Faults.{plan_fault}
 use Rattle.boot_plan.specs.FirstPages.{plan_of}
 use Rattle.boot_plan.specs.ImageFault.{IsImageFault}
 use Rattle.boot_plan.proofs.LawfulPlanLemmas.{lawful_plan, plan_can_start}
-use Rattle.xk_base.specs.declared.events.Event.{Event}
-use Rattle.event_text.specs.EventFile.{Input}
 use Rattle.kernel_args.specs.declared.args.Args.{Args}
 use Rattle.kernel_args.specs.declared.faults.ArgFault.{ArgFault}
 use Rattle.kernel_args.specs.Faults.{args_fault}
 use Rattle.kernel_args.specs.Image.{Spells}
 use Rattle.kernel_args.proofs.ImageLemmas.{spelled_once}
 use Rattle.machine_model.specs.Runs.Matched.{Matched}
-use Rattle.machine_model.specs.Runs.Moments.{state_at}
 use Rattle.machine_model.specs.State.Machine.{Machine}
 use Rattle.xk_base.specs.declared.limits.TheConstants.{SLOT_LIMIT}
-use Rattle.machine_history.specs.HistoryMoments.{moments_of}
-use Rattle.machine_history.proofs.Histories.MomentLemmas.{history_matched, moments_matched}
 use Rattle.xk_kernel.proofs.Starting.FirstLawfulLemmas.{start_of_plan_matched}
-use Rattle.event_player.specs.History.{history_of}
 use Rattle.xous_program.specs.Outcome.Images.{Boots}
 
 -- the cases of an image's fault
@@ -48,12 +42,3 @@ booted_matched image asked machine few boots =
     (start_of_plan_matched (plan_of args asked) image
     (lawful_plan args image asked boots.sound.spelled.sound few no_fault)
     (plan_can_start args image asked no_fault))
-
-pub moments_of_runs_matched : (image : List ℕ) (asked : Option ℕ) (machine : Machine) → IfSome asked (λ n. n ≤ SLOT_LIMIT) → Boots image asked machine
-    → (events : List Event) (limit i : ℕ) → Matched (state_at machine (moments_of events limit machine) i)
-moments_of_runs_matched image asked machine few boots events limit i =
-    moments_matched events limit machine (booted_matched image asked machine few boots) i
-
-pub runs_matched : (image : List ℕ) (asked : Option ℕ) (machine : Machine) → IfSome asked (λ n. n ≤ SLOT_LIMIT) → Boots image asked machine
-    → (input : Input) (limit : ℕ) → Matched (history_of input limit machine).machine
-runs_matched image asked machine few boots input limit = history_matched input.events limit machine (booted_matched image asked machine few boots)

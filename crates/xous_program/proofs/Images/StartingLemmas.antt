@@ -5,14 +5,16 @@ use Rattle.boot_plan.specs.Capacity.{page_frames}
 use Rattle.boot_plan.specs.FirstPages.{plan_of, planned_pages}
 use Rattle.boot_plan.specs.Lawful.{IsLawfulPlan}
 use Rattle.kernel_args.specs.declared.args.Args.{Args}
-use Rattle.xous_program.specs.Outcome.Images.{Image, IsSoundImage}
+use Rattle.xous_program.specs.Outcome.Images.{Image}
+use Rattle.program_status.specs.Plans.{IsSoundImage}
 use Rattle.xous_program.specs.Outcome.Demo.{TellsDemo}
-use Rattle.xous_program.specs.Outcome.Sides.{SinkSide, StoreSide, Told}
+use Rattle.xous_program.specs.Outcome.Sides.{StoreSide, Told}
+use Rattle.program_status.specs.Notes.{SinkSide}
 use Rattle.demo_load.specs.Events.{load_history, load_machine, load_plan}
 use Rattle.demo_load.specs.Image.{load_image}
 use Rattle.demo_load.specs.Totals.{demo_line, totals_of}
-use Rattle.xous_program.specs.declared.status.Status.{Status}
-use Rattle.xous_program.specs.declared.status.Status.TheVariants.{Done, WriteFault}
+use Rattle.program_status.specs.declared.status.Status.{Status}
+use Rattle.program_status.specs.declared.status.Status.TheVariants.{Done, WriteFault}
 use Rattle.host_io.specs.Reading.{IsFile}
 use Rattle.boot_plan.specs.declared.plans.BootPlan.{BootPlan}
 use Rattle.machine_model.specs.State.Machine.{Machine}

@@ -24,14 +24,15 @@ use Rattle.xk_ports.specs.declared.host.FileSlot.TheVariants.{First}
 use Rattle.event_player.specs.declared.telling.Telling.TheVariants.{Nothing}
 use Rattle.event_player.specs.declared.ending.Ending.{Ending}
 use Rattle.event_player.specs.declared.ending.Ending.TheVariants.{Played, LimitMet, BadLine}
-use Rattle.xous_program.specs.declared.status.Status.{Status}
-use Rattle.xous_program.specs.declared.status.Status.TheVariants.{Done, Usage, ReadFault, WriteFault, ImageFault, EventFault, StepLimit, SwapFault, NoMemory}
+use Rattle.program_status.specs.declared.status.Status.{Status}
+use Rattle.program_status.specs.declared.status.Status.TheVariants.{Done, Usage, ReadFault, WriteFault, ImageFault, EventFault, StepLimit, SwapFault, NoMemory}
 use Rattle.xous_program.specs.Finish.{EndsSilently, HasSaveCause, SavesState, Starts}
 use Rattle.event_player.specs.Gathering.{StaysSilent, Text}
 use Rattle.event_player.specs.History.{History, MayEnd, run_of}
 use Rattle.xous_program.specs.Outcome.Images.{plan_in}
 use Rattle.xous_program.specs.Outcome.Plays.{HasCause, RanFull}
-use Rattle.xous_program.specs.Outcome.Sides.{Call, SinkSide, StoreSide, Told}
+use Rattle.xous_program.specs.Outcome.Sides.{Call, StoreSide, Told}
+use Rattle.program_status.specs.Notes.{SinkSide}
 use Rattle.event_player.specs.Rooms.{ComesFull, Room}
 use Rattle.xous_program.specs.Outcome.Starts.{Booted, KnowsPages, room_of}
 use Rattle.xous_program.specs.Outcome.Suspends.{EndsSuspend, RanUnsaved, Saves, saved_at, saved_of, silent}

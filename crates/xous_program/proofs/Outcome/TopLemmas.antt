@@ -13,8 +13,8 @@ use Rattle.xous_program.specs.declared.commands.command.CommandWords.{CommandWor
 use Rattle.event_player.specs.declared.telling.Telling.{Telling}
 use Rattle.event_player.specs.declared.ending.Ending.{Ending}
 use Rattle.event_player.specs.declared.ending.Ending.TheVariants.{Played, LimitMet, BadLine}
-use Rattle.xous_program.specs.declared.status.Status.{Status}
-use Rattle.xous_program.specs.declared.status.Status.TheVariants.{Done, Usage, ReadFault, WriteFault, ImageFault, EventFault, StepLimit, SwapFault, NoMemory}
+use Rattle.program_status.specs.declared.status.Status.{Status}
+use Rattle.program_status.specs.declared.status.Status.TheVariants.{Done, Usage, ReadFault, WriteFault, ImageFault, EventFault, StepLimit, SwapFault, NoMemory}
 use Rattle.xous_program.specs.Finish.{EndsBooted, Finishes, Starts}
 use Rattle.event_player.specs.History.{History, MayEnd, run_of}
 use Rattle.xous_program.specs.Outcome.Ends.{Ends}

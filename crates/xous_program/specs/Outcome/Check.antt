@@ -3,10 +3,11 @@ use Rattle.std.specs.Prelude.{◌≡◌, ◌⊎◌, true, []}
 use Rattle.boot_plan.specs.declared.plans.BootPlan.{BootPlan}
 use Rattle.xk_ports.specs.declared.host.FileSlot.TheVariants.{First}
 use Rattle.xk_ports.specs.Told.{Grows, GrowsByProperPrefix}
-use Rattle.xous_program.specs.declared.status.Status.{Status}
-use Rattle.xous_program.specs.declared.status.Status.TheVariants.{Done, WriteFault}
+use Rattle.program_status.specs.declared.status.Status.{Status}
+use Rattle.program_status.specs.declared.status.Status.TheVariants.{Done, WriteFault}
 use Rattle.xous_program.specs.Outcome.Images.{EndsUnplanned, IsPlanned}
-use Rattle.xous_program.specs.Outcome.Sides.{Call, OutRose, SinkSide}
+use Rattle.xous_program.specs.Outcome.Sides.{Call, OutRose}
+use Rattle.program_status.specs.Notes.{SinkSide}
 use Rattle.host_io.specs.Reading.{Asked, IsTold}
 use Rattle.xous_program.specs.Summary.{summary_of}
 use Rattle.xous_program.specs.Words.{Check}

@@ -7,10 +7,12 @@ use Rattle.boot_plan.specs.FaultNumbers.{too_long}
 use Rattle.xk_base.specs.declared.limits.TheConstants.{IMAGE_LIMIT, SLOT_LIMIT}
 use Rattle.xk_ports.specs.declared.host.FileSlot.TheVariants.{First}
 use Rattle.xk_ports.specs.Told.{Grows, GrowsByProperPrefix}
-use Rattle.xous_program.specs.declared.status.Status.{Status}
-use Rattle.xous_program.specs.declared.status.Status.TheVariants.{Done, WriteFault, ImageFault}
-use Rattle.xous_program.specs.Outcome.Images.{EndsUnplanned, IsSoundImage}
-use Rattle.xous_program.specs.Outcome.Sides.{Call, OutRose, SinkSide, Told}
+use Rattle.program_status.specs.declared.status.Status.{Status}
+use Rattle.program_status.specs.declared.status.Status.TheVariants.{Done, WriteFault, ImageFault}
+use Rattle.xous_program.specs.Outcome.Images.{EndsUnplanned}
+use Rattle.program_status.specs.Plans.{IsSoundImage}
+use Rattle.xous_program.specs.Outcome.Sides.{Call, OutRose, Told}
+use Rattle.program_status.specs.Notes.{SinkSide}
 use Rattle.host_io.specs.Reading.{Asked, IsFile, IsTold}
 
 -- what is written of an image with these arguments: one of version 1 is converted, one of version 2 stays as it is

@@ -3,12 +3,13 @@ use Rattle.std.specs.Prelude.{◌≡◌, ◌⊎◌, ℕ, true, None}
 use Rattle.xk_base.specs.declared.limits.TheConstants.{DEFAULT_STEPS}
 use Rattle.machine_history.specs.HistoryMoments.{moments_of}
 use Rattle.xk_ports.specs.Told.{Grows, GrowsByProperPrefix}
-use Rattle.xous_program.specs.declared.status.Status.{Status}
-use Rattle.xous_program.specs.declared.status.Status.TheVariants.{Done, WriteFault}
-use Rattle.xous_program.specs.declared.status.Status.TheVariants.{SwapFault}
+use Rattle.program_status.specs.declared.status.Status.{Status}
+use Rattle.program_status.specs.declared.status.Status.TheVariants.{Done, WriteFault}
+use Rattle.program_status.specs.declared.status.Status.TheVariants.{SwapFault}
 use Rattle.demo_load.specs.Events.{load_events, load_history, load_machine, load_plan}
 use Rattle.demo_load.specs.Totals.{demo_line, totals_of}
-use Rattle.xous_program.specs.Outcome.Sides.{Call, OutRose, Prepares, SinkSide, StoreRose, StoreSide}
+use Rattle.xous_program.specs.Outcome.Sides.{Call, OutRose, Prepares, StoreRose, StoreSide}
+use Rattle.program_status.specs.Notes.{SinkSide}
 use Rattle.event_player.specs.Rooms.{ComesFull}
 use Rattle.xous_program.specs.Outcome.Starts.{Stops, room_of}
 

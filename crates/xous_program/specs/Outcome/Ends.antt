@@ -1,6 +1,6 @@
 -- How every call ends, by its words.
 use Rattle.std.specs.Prelude.{Option, Some, None}
-use Rattle.xous_program.specs.declared.status.Status.TheVariants.{Usage}
+use Rattle.program_status.specs.declared.status.Status.TheVariants.{Usage}
 use Rattle.xous_program.specs.Outcome.Check.{EndsCheck}
 use Rattle.xous_program.specs.Outcome.Convert.{EndsConvert}
 use Rattle.xous_program.specs.Outcome.Demo.{EndsDemo}

@@ -10,7 +10,7 @@ use Rattle.xous_program.specs.Outcome.Says.{Gives, Run, Says, Starts, event_name
 use Rattle.xous_program.specs.Outcome.Sides.{Call}
 use Rattle.xous_program.specs.Outcome.Starts.{KnowsPages}
 use Rattle.xous_program.specs.Words.{Command, Plays, Checks, Converts, Demo, Suspends, Resumes}
-use Rattle.xous_program.specs.declared.status.Status.{Status}
+use Rattle.program_status.specs.declared.status.Status.{Status}
 
 -- some bytes of the event file were read, and the events of the run are those of their whole lines
 pub record ReadsLines (command : Command) (call : Call) (run : Run) : Type 0 where

@@ -1,23 +1,18 @@
 -- Images that are read, and how a call ends that reads one with a fault.
-use Rattle.std.specs.Prelude.{◌≡◌, ℕ, List, Option, Some, None}
+use Rattle.std.specs.Prelude.{◌≡◌, ℕ, List, Option, Some}
 use Rattle.kernel_args.specs.declared.args.Args.{Args}
-use Rattle.kernel_args.specs.Image.{Spells}
 use Rattle.boot_plan.specs.FirstPages.{plan_of}
 use Rattle.boot_plan.specs.ImageFault.{IsImageFault}
 use Rattle.boot_plan.specs.declared.plans.BootPlan.{BootPlan}
 use Rattle.machine_model.specs.State.Machine.{Machine}
 use Rattle.xk_kernel.specs.Start.{start}
 use Rattle.xk_ports.specs.declared.host.FileSlot.TheVariants.{First}
-use Rattle.xous_program.specs.declared.status.Status.{Status}
-use Rattle.xous_program.specs.declared.status.Status.TheVariants.{ReadFault, ImageFault}
-use Rattle.xous_program.specs.declared.status.Status.TheVariants.{NoMemory}
+use Rattle.program_status.specs.declared.status.Status.{Status}
+use Rattle.program_status.specs.declared.status.Status.TheVariants.{ReadFault, ImageFault}
+use Rattle.program_status.specs.declared.status.Status.TheVariants.{NoMemory}
+use Rattle.program_status.specs.Plans.{IsSoundImage}
 use Rattle.xous_program.specs.Outcome.Sides.{Call, HostRose, IsUnwritten, Told}
 use Rattle.host_io.specs.Reading.{AsksFor, IsFile}
-
--- The image has no fault in a run that asks for these slots, and these are its arguments.
-pub record IsSoundImage (image : List ℕ) (asked : Option ℕ) (args : Args) : Type 0 where
-  pub spelled : Spells image args
-  pub no_fault : IsImageFault image asked None
 
 -- the image boots this machine, the start of its plan
 pub record Boots (image : List ℕ) (asked : Option ℕ) (machine : Machine) : Type 0 where
@@ -50,12 +45,6 @@ Refuses file name asked host_rose (ImageFault fault) = (image : List ℕ) × IsF
 Refuses file name asked host_rose ReadFault = host_rose
 Refuses file name asked host_rose NoMemory = Unit {0}
 Refuses file name asked host_rose _ = ⊥
-
--- the same of bytes that were read
-abbrev pub RefusesBytes : List ℕ → Option ℕ → Status → Type 0
-RefusesBytes image asked (ImageFault fault) = IsImageFault image asked (Some fault)
-RefusesBytes image asked NoMemory = Unit {0}
-RefusesBytes image asked _ = ⊥
 
 -- The image isn't planned, and nothing is written. It was asked for at the first slot and picked there or not, and nothing else was.
 pub record EndsUnplanned (image : List ℕ) (slots : Option ℕ) (call : Call) : Type 0 where

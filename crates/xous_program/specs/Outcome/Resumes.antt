@@ -3,7 +3,7 @@ use Rattle.std.specs.Prelude.{◌≡◌, ◌⊎◌, ℕ, nat_le, if◌then◌els
 use Rattle.machine_model.specs.State.Machine.{Machine}
 use Rattle.xk_ports.specs.declared.host.FileSlot.TheVariants.{First}
 use Rattle.event_player.specs.declared.telling.Telling.TheVariants.{Trace}
-use Rattle.xous_program.specs.declared.status.Status.TheVariants.{Done, ReadFault}
+use Rattle.program_status.specs.declared.status.Status.TheVariants.{Done, ReadFault}
 use Rattle.xous_program.specs.Outcome.Plays.{AsksBoth, HasCause, Tells}
 use Rattle.xous_program.specs.Outcome.Sides.{Call, HostRose, IsUnprepared, IsUnwritten, Prepares}
 use Rattle.xous_program.specs.Outcome.Starts.{Booted, StopsIn}

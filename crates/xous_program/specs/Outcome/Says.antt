@@ -24,8 +24,8 @@ use Rattle.xous_program.specs.Outcome.Suspends.{saved_of, silent}
 use Rattle.xous_program.specs.StateFiles.{IsStateFault}
 use Rattle.xous_program.specs.Summary.{summary_of}
 use Rattle.xous_program.specs.Words.{Command, Play, Resume, Plays, Checks, Converts, Demo, Suspends, Resumes}
-use Rattle.xous_program.specs.declared.status.Status.{Status}
-use Rattle.xous_program.specs.declared.status.Status.TheVariants.{Done, ImageFault, EventFault, StepLimit}
+use Rattle.program_status.specs.declared.status.Status.{Status}
+use Rattle.program_status.specs.declared.status.Status.TheVariants.{Done, ImageFault, EventFault, StepLimit}
 
 -- ---- runs
 

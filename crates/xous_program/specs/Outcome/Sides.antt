@@ -1,16 +1,16 @@
 -- What a call meets outside, before it and after it. What is said of the bytes of files, of what stands on `out` and of the preparations
 -- asked for holds where they are told; what is said of counts of faults rests on nothing.
-use Rattle.std.specs.Prelude.{◌≡◌, ◌==◌, ◌||◌, ◌⊎◌, ℕ, Bool, IsTrue, List, [], ◌∷◌, Option}
+use Rattle.std.specs.Prelude.{◌≡◌, ◌==◌, ◌||◌, ℕ, Bool, IsTrue, List, [], ◌∷◌, Option}
 use Rattle.xk_base.specs.Outside.{Rose}
 use Rattle.xk_ports.specs.declared.host.Host.{Ghosts as Host}
-use Rattle.xk_ports.specs.declared.sink.Sink.{Ghosts as Sink}
 use Rattle.xk_ports.specs.declared.store.SwapStore.{Ghosts as SwapStore}
 use Rattle.xk_ports.specs.declared.host.FileSlot.TheVariants.{First, Second}
 use Rattle.xk_ports.specs.Host.{FileAsked}
 use Rattle.xk_ports.specs.Keeping.{tells_truly}
 use Rattle.xk_ports.specs.Store.{StoreAsked}
-use Rattle.xk_ports.specs.Told.{Grows, GrowsByProperPrefix}
-use Rattle.xous_program.specs.declared.status.Status.{Status}
+use Rattle.xk_ports.specs.Told.{Grows}
+use Rattle.program_status.specs.Notes.{SinkSide}
+use Rattle.program_status.specs.declared.status.Status.{Status}
 
 -- the files of the host by their names, where they are told
 abbrev pub Told : Type 0
@@ -35,22 +35,6 @@ host_side S old new = record {
   asked_after = S.asked new;
   image_left = S.left new First;
   left = S.left new Second;
-  faults = S.faults old;
-  faults_after = S.faults new;
-}
-
--- what stands on a sink, and its count of faults, before the call and after it
-pub record SinkSide : Type 0 where
-  pub written : Option (List ℕ)
-  pub written_after : Option (List ℕ)
-  pub faults : ℕ
-  pub faults_after : ℕ
-
--- the side of a sink before the call and after it
-abbrev pub sink_side : {K : Type 0} → Sink K → K → K → SinkSide
-sink_side S old new = record {
-  written = S.written old;
-  written_after = S.written new;
   faults = S.faults old;
   faults_after = S.faults new;
 }
@@ -80,6 +64,9 @@ pub record Call : Type 0 where
   pub out : SinkSide
   pub store : StoreSide
   pub status : Status
+
+abbrev pub call_of : HostSide → SinkSide → StoreSide → Status → Call
+call_of host out store status = record { host = host; out = out; store = store; status = status }
 
 -- the count of faults rose in the call
 abbrev pub HostRose : Call → Type 0
@@ -121,11 +108,3 @@ pub record IsUntouched (status : Status) (call : Call) : Type 0 where
   pub host_faults : call.host.faults_after ≡ call.host.faults
   pub out_faults : call.out.faults_after ≡ call.out.faults
   pub store : IsUnprepared call.store
-
--- ---- the notes
-
--- the notes got this text, or a proper part from its front where their count of faults rose
-abbrev pub Notes : SinkSide → List ℕ → Type 0
-Notes notes text =
-    Grows notes.written notes.written_after text
-    ⊎ (Rose notes.faults notes.faults_after × GrowsByProperPrefix notes.written notes.written_after text)

@@ -6,8 +6,8 @@ use Rattle.boot_plan.specs.declared.plans.BootPlan.{BootPlan}
 use Rattle.machine_model.specs.State.Machine.{Machine}
 use Rattle.machine_history.specs.HistoryMoments.{moments_of}
 use Rattle.event_player.specs.Rooms.{ComesFull, IsFull, Room}
-use Rattle.xous_program.specs.declared.status.Status.{Status}
-use Rattle.xous_program.specs.declared.status.Status.TheVariants.{SwapFault, NoMemory}
+use Rattle.program_status.specs.declared.status.Status.{Status}
+use Rattle.program_status.specs.declared.status.Status.TheVariants.{SwapFault, NoMemory}
 use Rattle.xous_program.specs.Outcome.Sides.{IsTrusted, Prepares, StoreRose, StoreSide}
 
 -- the room of a plan: the frames that no table takes, but for one that stays free for exchanges

@@ -1,9 +1,9 @@
 -- State files by their names, and how a call ends that reads one with a fault.
 use Rattle.std.specs.Prelude.{◌-◌, ℕ, List}
 use Rattle.machine_model.specs.State.Machine.{Machine}
-use Rattle.xous_program.specs.declared.status.Status.{Status}
-use Rattle.xous_program.specs.declared.status.Status.TheVariants.{ReadFault, ImageFault}
-use Rattle.xous_program.specs.declared.status.Status.TheVariants.{NoMemory}
+use Rattle.program_status.specs.declared.status.Status.{Status}
+use Rattle.program_status.specs.declared.status.Status.TheVariants.{ReadFault, ImageFault}
+use Rattle.program_status.specs.declared.status.Status.TheVariants.{NoMemory}
 use Rattle.xous_program.specs.Outcome.Sides.{Told}
 use Rattle.event_player.specs.Rooms.{Room}
 use Rattle.host_io.specs.Reading.{IsFile}

@@ -7,9 +7,9 @@ use Rattle.xk_ports.specs.Told.{Grows, GrowsByProperPrefix}
 use Rattle.event_player.specs.declared.telling.Telling.TheVariants.{Nothing}
 use Rattle.event_player.specs.declared.ending.Ending.{Ending}
 use Rattle.event_player.specs.declared.ending.Ending.TheVariants.{Played, LimitMet, BadLine}
-use Rattle.xous_program.specs.declared.status.Status.{Status}
-use Rattle.xous_program.specs.declared.status.Status.TheVariants.{Done, ReadFault, WriteFault, EventFault, StepLimit}
-use Rattle.xous_program.specs.declared.status.Status.TheVariants.{SwapFault}
+use Rattle.program_status.specs.declared.status.Status.{Status}
+use Rattle.program_status.specs.declared.status.Status.TheVariants.{Done, ReadFault, WriteFault, EventFault, StepLimit}
+use Rattle.program_status.specs.declared.status.Status.TheVariants.{SwapFault}
 use Rattle.event_text.specs.EventFile.{input_of}
 use Rattle.event_player.specs.History.{History, MayEnd, run_of}
 use Rattle.xous_program.specs.Outcome.Images.{Image, plan_in}

@@ -11,13 +11,14 @@ ghost use Rattle.xk_base.specs.Outside.{Rose};
 ghost use Rattle.xk_kernel.specs.Sound.{IsSound, IsUsable};
 ghost use Rattle.xk_kernel.specs.Start.{start};
 ghost use Rattle.xk_kernel.specs.State.{machine_of};
-ghost use Rattle.xk_ports.specs.Host.{other_slot};
 ghost use Rattle.xk_ports.specs.declared.host.FileSlot.TheVariants.{First};
 ghost use Rattle.xous_program.specs.Finish.{Starts};
 ghost use Rattle.event_player.specs.Gathering.{Text};
-ghost use Rattle.xous_program.specs.Outcome.Images.{IsSoundImage, Refuses, RefusesBytes};
+ghost use Rattle.xous_program.specs.Outcome.Images.{Refuses};
+ghost use Rattle.program_status.specs.Plans.{IsSoundImage};
 ghost use Rattle.xous_program.specs.Outcome.Plays.{EndsRefused, EndsUnstarted};
-ghost use Rattle.xous_program.specs.Outcome.Sides.{Call, Prepares, SinkSide, host_side, store_side};
+ghost use Rattle.xous_program.specs.Outcome.Sides.{Prepares, call_of, host_side, store_side};
+ghost use Rattle.program_status.specs.Notes.{SinkSide};
 ghost use Rattle.xous_program.specs.Outcome.Starts.{Stops, room_of};
 ghost use Rattle.host_io.specs.Reading.{Asked, AsksFor, IsFile, IsTold};
 ghost use Rattle.event_player.specs.Standing.{Begins, room_in, stand};
@@ -25,41 +26,19 @@ ghost use Rattle.xous_program.specs.Words.{play_in};
 
 use crate::commands::command::PlayWords;
 use crate::status::{Ended, Status};
-use boot_plan::{BootPlan, PlanError, TOO_LONG, plan};
+use boot_plan::{BootPlan, TOO_LONG};
 use host_io::{Content, ReadError, read_file};
-use kernel_args::{ArgFault, Args, ArgsError, read_args};
+use kernel_args::{ArgFault, Args};
+use program_status::{Planned, plan_bytes};
 use std::alloc::Global;
 use vm_memory::{BootError, BootFault};
 use xk_base::limits::IMAGE_LIMIT;
 use xk_kernel::Kernel;
 use xk_ports::{FileSlot, Host, StoreFault, SwapStore};
 
-/// Plans the first pages of the image of these bytes, for a run that asks for these slots, or says why
-/// not: `ImageFault` or `NoMemory`.
-fn plan_bytes(alloc: Global, bytes: &[u8], asked: Option<u32>) -> Result<(Args, BootPlan), Status>
-    requires size { length bytes.now ≤ IMAGE_LIMIT }
-    requires few { IfSome asked (λ n. n ≤ SLOT_LIMIT) }
-    ensures image { IfOk result (λ planned. IsSoundImage bytes.now asked planned.0) }
-    ensures planned { IfOk result (λ planned. planned.1 ≡ plan_of planned.0 asked) }
-    ensures lawful { IfOk result (λ planned. IsLawfulPlan (length bytes.now) planned.1) }
-    ensures can_start { IfOk result (λ planned. All CanStart planned.1.procs) }
-    ensures refused { IfErr result (RefusesBytes bytes.now asked) }
-{
-    let args = match read_args(alloc, bytes) {
-        Ok(args) => args,
-        Err(ArgsError::Fault(fault)) => return Err(Status::ImageFault(fault)),
-        Err(ArgsError::NoMemory) => return Err(Status::NoMemory),
-    };
-    match plan(alloc, &args, bytes, asked) {
-        Ok(plan) => Ok((args, plan)),
-        Err(PlanError::Fault(fault)) => Err(Status::ImageFault(fault)),
-        Err(PlanError::NoMemory) => Err(Status::NoMemory),
-    }
-}
-
 /// An image that was read, its arguments, and its plan.
 #[derive(Debug, Drop)]
-pub struct Planned {
+pub struct PlannedImage {
     pub bytes: Vec<u8>,
     pub args: Args,
     pub plan: BootPlan,
@@ -71,7 +50,7 @@ pub fn plan_image<H: Host>(
     host: &mut H,
     name: &str,
     asked: Option<u32>,
-) -> Result<Planned, Status>
+) -> Result<PlannedImage, Status>
     requires { IfSome asked (λ n. n ≤ SLOT_LIMIT) }
     ensures read { IfOk result (λ planned. IsFile (H.file host.old) name.now planned.bytes.items) }
     ensures image { IfOk result (λ planned. IsSoundImage planned.bytes.items asked planned.args) }
@@ -88,7 +67,7 @@ pub fn plan_image<H: Host>(
 {
     match read_file(alloc, host, FileSlot::First, name, IMAGE_LIMIT as usize) {
         Ok(Content::Whole(bytes)) => match plan_bytes(alloc, bytes.as_slice(), asked) {
-            Ok((args, plan)) => Ok(Planned { bytes, args, plan }),
+            Ok(Planned { args, plan }) => Ok(PlannedImage { bytes, args, plan }),
             Err(status) => Err(status),
         },
         Ok(Content::TooLong) => Err(Status::ImageFault(ArgFault {
@@ -178,12 +157,9 @@ pub fn boot_image<H: Host, W: SwapStore>(
     ensures count { IfOk result (λ kernel. W.faults store ≤ W.faults (store_of kernel.mem)) }
     ensures end { OnOk result (IsTold (H.left host.new First) []) }
     ensures picked { OnOk result (Asked (H.asked host.old) (H.asked host.new) First play.entry.image.now true) }
-    ensures ends { (out : SinkSide) → out.written_after ≡ out.written → IfErr result (λ ended. let call : Call = record {
-      host = host_side H.Host host.old host.new;
-      out = out;
-      store = store_side W.SwapStore store ended.store;
-      status = ended.status;
-    } in EndsRefused (play_in play.entry) call ⊎ EndsUnstarted (play_in play.entry) call) }
+    ensures ends { (out : SinkSide) → out.written_after ≡ out.written → IfErr result (λ ended.
+        let call = call_of (host_side H.Host host.old host.new) out (store_side W.SwapStore store ended.store) ended.status in
+        EndsRefused (play_in play.entry) call ⊎ EndsUnstarted (play_in play.entry) call) }
     ensures back { IfErr result (λ ended. W.faults store ≤ W.faults ended.store) }
     ensures file { H.file host.new ≡ H.file host.old }
     ensures never_falls { H.faults host.old ≤ H.faults host.new }

@@ -2,7 +2,8 @@
 
 ghost use Rattle.std.specs.Prelude.{◌≤◌};
 ghost use Rattle.xous_program.specs.Outcome.Check.{EndsCheck};
-ghost use Rattle.xous_program.specs.Outcome.Sides.{Call, StoreSide, host_side, sink_side};
+ghost use Rattle.xous_program.specs.Outcome.Sides.{StoreSide, call_of, host_side};
+ghost use Rattle.program_status.specs.Notes.{sink_side};
 ghost use Rattle.xous_program.specs.Words.{check_in};
 
 use crate::commands::booting::plan_image;
@@ -19,12 +20,8 @@ pub fn check_image<H: Host, K: Sink>(
     host: &mut H,
     out: &mut K,
 ) -> Status
-    ensures ends { (store : StoreSide) → let call : Call = record {
-      host = host_side H.Host host.old host.new;
-      out = sink_side K.Sink out.old out.new;
-      store = store;
-      status = result;
-    } in EndsCheck (check_in check.entry) call }
+    ensures ends { (store : StoreSide) → let call = call_of (host_side H.Host host.old host.new)
+        (sink_side K.Sink out.old out.new) store result in EndsCheck (check_in check.entry) call }
     ensures host { H.faults host.old ≤ H.faults host.new }
     ensures out { K.faults out.old ≤ K.faults out.new }
 {

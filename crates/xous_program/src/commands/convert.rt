@@ -4,7 +4,8 @@ ghost use Rattle.std.specs.Prelude.{◌≡◌, ◌≤◌, length};
 ghost use Rattle.xk_base.specs.declared.limits.TheConstants.{IMAGE_LIMIT};
 ghost use Rattle.xk_base.specs.Outside.{Rose};
 ghost use Rattle.xous_program.specs.Outcome.Convert.{EndsConvert, Writes};
-ghost use Rattle.xous_program.specs.Outcome.Sides.{Call, StoreSide, host_side, sink_side};
+ghost use Rattle.xous_program.specs.Outcome.Sides.{StoreSide, call_of, host_side};
+ghost use Rattle.program_status.specs.Notes.{sink_side};
 
 use crate::commands::booting::plan_image;
 use crate::status::Status;
@@ -35,12 +36,8 @@ pub fn convert_image<H: Host, K: Sink>(
     host: &mut H,
     out: &mut K,
 ) -> Status
-    ensures ends { (store : StoreSide) → let call : Call = record {
-      host = host_side H.Host host.old host.new;
-      out = sink_side K.Sink out.old out.new;
-      store = store;
-      status = result;
-    } in EndsConvert image.now call }
+    ensures ends { (store : StoreSide) → let call = call_of (host_side H.Host host.old host.new)
+        (sink_side K.Sink out.old out.new) store result in EndsConvert image.now call }
     ensures host { H.faults host.old ≤ H.faults host.new }
     ensures out { K.faults out.old ≤ K.faults out.new }
 {

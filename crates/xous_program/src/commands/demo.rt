@@ -11,10 +11,11 @@ ghost use Rattle.demo_load.specs.Events.{load_machine, load_plan};
 ghost use Rattle.demo_load.specs.Image.{load_image};
 ghost use Rattle.demo_load.specs.Totals.{demo_line};
 ghost use Rattle.xous_program.specs.Outcome.Demo.{Demonstrates};
-ghost use Rattle.xous_program.specs.Outcome.Sides.{Prepares, sink_side, store_side};
+ghost use Rattle.xous_program.specs.Outcome.Sides.{Prepares, store_side};
+ghost use Rattle.program_status.specs.Notes.{sink_side};
 ghost use Rattle.xous_program.specs.Outcome.Starts.{Stops, room_of};
 ghost use Rattle.event_player.specs.Standing.{room_in};
-ghost use Rattle.xous_program.specs.declared.status.Status.TheVariants.{Done, WriteFault};
+ghost use Rattle.program_status.specs.declared.status.Status.TheVariants.{Done, WriteFault};
 
 use crate::commands::booting::start_run;
 use crate::commands::command::DemoWords;

@@ -9,7 +9,8 @@ ghost use Rattle.xk_ports.specs.declared.host.FileSlot.TheVariants.{First};
 ghost use Rattle.xous_program.specs.Finish.{EndsBooted, Finishes};
 ghost use Rattle.event_player.specs.Gathering.{put};
 ghost use Rattle.xous_program.specs.Outcome.Plays.{EndsPlay};
-ghost use Rattle.xous_program.specs.Outcome.Sides.{Call, host_side, sink_side, store_side};
+ghost use Rattle.xous_program.specs.Outcome.Sides.{call_of, host_side, store_side};
+ghost use Rattle.program_status.specs.Notes.{sink_side};
 ghost use Rattle.xous_program.specs.Outcome.Starts.{Booted};
 ghost use Rattle.event_player.specs.Standing.{Begins, room_in, stand};
 ghost use Rattle.xous_program.specs.Words.{play_in};
@@ -60,12 +61,9 @@ pub fn play_events<H: Host, K: Sink, W: SwapStore>(
           machine = start;
           room = room_in kernel.old;
           slots = (size kernel.old.mem).slots;
-        } in let call : Call = record {
-          host = host_side H.Host host.old host.new;
-          out = sink_side K.Sink out.old out.new;
-          store = store_side W.SwapStore (store_of kernel.old.mem) (store_of kernel.new.mem);
-          status = result;
-        } in EndsBooted (play_in play.entry) booted call }
+        } in let call = call_of (host_side H.Host host.old host.new) (sink_side K.Sink out.old out.new)
+            (store_side W.SwapStore (store_of kernel.old.mem) (store_of kernel.new.mem)) result in
+            EndsBooted (play_in play.entry) booted call }
     ensures sound { IsSound W.SwapStore kernel.new }
     ensures keeps { Keeps W.SwapStore kernel.old kernel.new }
     ensures first { H.left host.new First ≡ H.left host.old First }
@@ -91,12 +89,8 @@ pub fn play_image<H: Host, K: Sink, W: SwapStore>(
     out: &mut K,
     store: W,
 ) -> Ended<W>
-    ensures ends { let call : Call = record {
-      host = host_side H.Host host.old host.new;
-      out = sink_side K.Sink out.old out.new;
-      store = store_side W.SwapStore store result.store;
-      status = result.status;
-    } in EndsPlay (play_in play.entry) call }
+    ensures ends { let call = call_of (host_side H.Host host.old host.new) (sink_side K.Sink out.old out.new)
+        (store_side W.SwapStore store result.store) result.status in EndsPlay (play_in play.entry) call }
     ensures store { W.faults store ≤ W.faults result.store }
     ensures host { H.faults host.old ≤ H.faults host.new }
     ensures out { K.faults out.old ≤ K.faults out.new }

@@ -2,7 +2,8 @@
 
 ghost use Rattle.std.specs.Prelude.{◌≤◌};
 ghost use Rattle.xous_program.specs.Outcome.Resumes.{EndsResume};
-ghost use Rattle.xous_program.specs.Outcome.Sides.{Call, host_side, sink_side, store_side};
+ghost use Rattle.xous_program.specs.Outcome.Sides.{call_of, host_side, store_side};
+ghost use Rattle.program_status.specs.Notes.{sink_side};
 ghost use Rattle.xous_program.specs.Words.{resume_in};
 
 use crate::commands::command::{PlayWords, ResumeWords};
@@ -22,12 +23,8 @@ pub fn resume_run<H: Host, K: Sink, W: SwapStore>(
     out: &mut K,
     store: W,
 ) -> Ended<W>
-    ensures ends { let call : Call = record {
-      host = host_side H.Host host.old host.new;
-      out = sink_side K.Sink out.old out.new;
-      store = store_side W.SwapStore store result.store;
-      status = result.status;
-    } in EndsResume (resume_in resume.entry) call }
+    ensures ends { let call = call_of (host_side H.Host host.old host.new) (sink_side K.Sink out.old out.new)
+        (store_side W.SwapStore store result.store) result.status in EndsResume (resume_in resume.entry) call }
     ensures store { W.faults store ≤ W.faults result.store }
     ensures host { H.faults host.old ≤ H.faults host.new }
     ensures out { K.faults out.old ≤ K.faults out.new }

@@ -1,20 +1,21 @@
 //! A state file is read, and its run goes on: the store is prepared, and the state is resumed.
 
-ghost use Rattle.std.specs.Prelude.{◌≡◌, ◌≤◌, ◌⊎◌, [], ℕ, true, false, length, IfOk, IfErr, OnOk, None};
+ghost use Rattle.std.specs.Prelude.{◌≡◌, ◌≤◌, ◌⊎◌, [], true, false, length, IfOk, IfErr, OnOk, None};
 ghost use Rattle.xous_program.specs.declared.commands.states.TheConstants.{STATE_LIMIT};
-ghost use Rattle.xk_base.specs.declared.limits.TheConstants.{SLOT_LIMIT, STEP_LIMIT};
+ghost use Rattle.xk_base.specs.declared.limits.TheConstants.{PROCESS_LIMIT, SLOT_LIMIT, STEP_LIMIT};
 ghost use Rattle.machine_model.specs.State.Machine.{Machine};
 ghost use Rattle.state_rows.specs.Machines.{machine_of as machine_in};
 ghost use Rattle.vm_memory.specs.Memory.{size, store_of};
 ghost use Rattle.xk_base.specs.Outside.{Rose};
-ghost use Rattle.resume_path.specs.Resumable.{CanSplit, IsResumable};
+ghost use Rattle.resume_path.specs.Resumable.{CanSplit};
 ghost use Rattle.xk_kernel.specs.Sound.{IsSound, IsUsable};
 ghost use Rattle.xk_kernel.specs.State.{machine_of};
 ghost use Rattle.xk_ports.specs.declared.host.FileSlot.TheVariants.{First};
 ghost use Rattle.xous_program.specs.Finish.{Continues};
 ghost use Rattle.event_player.specs.Gathering.{Text};
 ghost use Rattle.xous_program.specs.Outcome.Resumes.{EndsUnread, EndsUnresumed};
-ghost use Rattle.xous_program.specs.Outcome.Sides.{Call, Prepares, SinkSide, host_side, store_side};
+ghost use Rattle.xous_program.specs.Outcome.Sides.{Prepares, call_of, host_side, store_side};
+ghost use Rattle.program_status.specs.Notes.{SinkSide};
 ghost use Rattle.xous_program.specs.Outcome.Starts.{StopsIn};
 ghost use Rattle.xous_program.specs.Outcome.States.{RefusesState, RefusesStateBytes, room_from};
 ghost use Rattle.host_io.specs.Reading.{Asked, AsksFor, IsFile, IsTold};
@@ -27,6 +28,7 @@ use crate::status::{Ended, Status};
 use boot_plan::TOO_LONG;
 use host_io::{Content, ReadError, read_file};
 use kernel_args::ArgFault;
+use program_status::BAD_SPLIT;
 use std::alloc::Global;
 use suspend_image::{State, StateError, read_state};
 use vm_memory::{BootError, BootFault};
@@ -37,12 +39,9 @@ use xk_ports::{FileSlot, Host, StoreFault, SwapStore};
 /// The most bytes of a state file.
 pub const STATE_LIMIT: u32 = 167_772_160;
 
-/// The fault of a state whose pages can't be split into frames and the slots that are asked for.
-pub const BAD_SPLIT: u8 = 25;
-
 /// Whether the pages that there may be can be split into these slots and the frames of a RAM.
 fn can_split(state: &State, slots: u32) -> bool
-    requires processes { state.now.n ≤ 64 }
+    requires processes { state.now.n ≤ PROCESS_LIMIT }
     requires few { slots ≤ SLOT_LIMIT }
     ensures split { result ≡ true → CanSplit state.now slots }
     ensures bad { result ≡ false → IsBadSplit state.now slots }
@@ -189,12 +188,9 @@ pub fn continue_run<H: Host, W: SwapStore>(
     ensures count { IfOk result (λ kernel. W.faults store ≤ W.faults (store_of kernel.mem)) }
     ensures end { OnOk result (IsTold (H.left host.new First) []) }
     ensures picked { OnOk result (Asked (H.asked host.old) (H.asked host.new) First resume.entry.state.now true) }
-    ensures ends { (out : SinkSide) → out.written_after ≡ out.written → IfErr result (λ ended. let call : Call = record {
-      host = host_side H.Host host.old host.new;
-      out = out;
-      store = store_side W.SwapStore store ended.store;
-      status = ended.status;
-    } in EndsUnread (resume_in resume.entry) call ⊎ EndsUnresumed (resume_in resume.entry) call) }
+    ensures ends { (out : SinkSide) → out.written_after ≡ out.written → IfErr result (λ ended.
+        let call = call_of (host_side H.Host host.old host.new) out (store_side W.SwapStore store ended.store) ended.status in
+        EndsUnread (resume_in resume.entry) call ⊎ EndsUnresumed (resume_in resume.entry) call) }
     ensures back { IfErr result (λ ended. W.faults store ≤ W.faults ended.store) }
     ensures file { H.file host.new ≡ H.file host.old }
     ensures never_falls { H.faults host.old ≤ H.faults host.new }

@@ -1,7 +1,7 @@
 //! What `check` writes of a plan.
 
 ghost use Rattle.std.specs.Prelude.{◌≡◌, ◌+◌, ◌≤◌, ◌<◌, ◌^◌, length, sum_by, OnOk, OnErr};
-ghost use Rattle.xk_base.specs.declared.limits.TheConstants.{FRAME_LIMIT};
+ghost use Rattle.xk_base.specs.declared.limits.TheConstants.{FRAME_LIMIT, PROCESS_LIMIT};
 ghost use Rattle.boot_plan.specs.Lawful.{IsLawfulPlan};
 ghost use Rattle.xk_base.specs.Outside.{Rose};
 ghost use Rattle.xk_ports.specs.Told.{Grows, GrowsByProperPrefix};
@@ -69,7 +69,7 @@ fn total_line(plan: &BootPlan, file_len: u32) -> Line
 
 /// Writes the line of each process.
 fn write_processes<K: Sink>(processes: &[ProcPlan], out: &mut K) -> Result<(), Failed>
-    requires few { length processes.now ≤ 64 }
+    requires few { length processes.now ≤ PROCESS_LIMIT }
     requires pages { sum_by (λ p. length p.pages) processes.now < 2 ^ 32 }
     ensures appended { OnOk result (Grows (K.written out.old) (K.written out.new) (process_lines 2 processes.now)) }
     ensures front { OnErr result (GrowsByProperPrefix (K.written out.old) (K.written out.new) (process_lines 2 processes.now)) }

@@ -12,7 +12,8 @@ ghost use Rattle.xk_ports.specs.declared.host.FileSlot.TheVariants.{First};
 ghost use Rattle.xous_program.specs.Finish.{EndsSilently, HasSaveCause, SavesState, Starts};
 ghost use Rattle.event_player.specs.Gathering.{Text, put};
 ghost use Rattle.xous_program.specs.Outcome.Plays.{EndsRefused, EndsUnstarted};
-ghost use Rattle.xous_program.specs.Outcome.Sides.{Call, SinkSide, host_side, sink_side, store_side};
+ghost use Rattle.xous_program.specs.Outcome.Sides.{call_of, host_side, store_side};
+ghost use Rattle.program_status.specs.Notes.{SinkSide, sink_side};
 ghost use Rattle.xous_program.specs.Outcome.Starts.{Booted};
 ghost use Rattle.xous_program.specs.Outcome.Suspends.{EndsSuspend, silent};
 ghost use Rattle.host_io.specs.Reading.{Asked, IsTold};
@@ -52,12 +53,9 @@ fn boot_with_sheet<H: Host, W: SwapStore>(
     ensures count { IfOk result (λ run. W.faults store ≤ W.faults (store_of run.0.mem)) }
     ensures end { OnOk result (IsTold (H.left host.new First) []) }
     ensures picked { OnOk result (Asked (H.asked host.old) (H.asked host.new) First suspend.entry.image.now true) }
-    ensures ends { (out : SinkSide) → out.written_after ≡ out.written → IfErr result (λ ended. let call : Call = record {
-      host = host_side H.Host host.old host.new;
-      out = out;
-      store = store_side W.SwapStore store ended.store;
-      status = ended.status;
-    } in let play = silent (suspend_in suspend.entry) in EndsRefused play call ⊎ EndsUnstarted play call) }
+    ensures ends { (out : SinkSide) → out.written_after ≡ out.written → IfErr result (λ ended.
+        let call = call_of (host_side H.Host host.old host.new) out (store_side W.SwapStore store ended.store) ended.status in
+        let play = silent (suspend_in suspend.entry) in EndsRefused play call ⊎ EndsUnstarted play call) }
     ensures back { IfErr result (λ ended. W.faults store ≤ W.faults ended.store) }
     ensures file { H.file host.new ≡ H.file host.old }
     ensures never_falls { H.faults host.old ≤ H.faults host.new }
@@ -122,12 +120,9 @@ fn suspend_events<H: Host, K: Sink, W: SwapStore>(
           machine = start;
           room = room_in kernel.old;
           slots = (size kernel.old.mem).slots;
-        } in let call : Call = record {
-          host = host_side H.Host host.old host.new;
-          out = sink_side K.Sink out.old out.new;
-          store = store_side W.SwapStore (store_of kernel.old.mem) (store_of kernel.new.mem);
-          status = result;
-        } in EndsSilently (suspend_in suspend.entry) booted call }
+        } in let call = call_of (host_side H.Host host.old host.new) (sink_side K.Sink out.old out.new)
+            (store_side W.SwapStore (store_of kernel.old.mem) (store_of kernel.new.mem)) result in
+            EndsSilently (suspend_in suspend.entry) booted call }
     ensures sound { IsSound W.SwapStore kernel.new }
     ensures keeps { Keeps W.SwapStore kernel.old kernel.new }
     ensures first { H.left host.new First ≡ H.left host.old First }
@@ -155,12 +150,8 @@ pub fn suspend_run<H: Host, K: Sink, W: SwapStore>(
     out: &mut K,
     store: W,
 ) -> Ended<W>
-    ensures ends { let call : Call = record {
-      host = host_side H.Host host.old host.new;
-      out = sink_side K.Sink out.old out.new;
-      store = store_side W.SwapStore store result.store;
-      status = result.status;
-    } in EndsSuspend (suspend_in suspend.entry) call }
+    ensures ends { let call = call_of (host_side H.Host host.old host.new) (sink_side K.Sink out.old out.new)
+        (store_side W.SwapStore store result.store) result.status in EndsSuspend (suspend_in suspend.entry) call }
     ensures store { W.faults store ≤ W.faults result.store }
     ensures host { H.faults host.old ≤ H.faults host.new }
     ensures out { K.faults out.old ≤ K.faults out.new }

@@ -1,7 +1,8 @@
-use Rattle.std.proofs.Common.{List, ℕ, refl, subst, sym}
+use Rattle.std.proofs.Common.{List, ℕ, None, refl, subst, sym}
 use Rattle.std.specs.Option.{option_copied}
+use Rattle.program_status.specs.Plans.{IsSoundImage}
 use Rattle.xk_base.specs.Outside.{Rose}
-use Rattle.xousorders.specs.Asked.{Asking, HostFiles, IsAsked, IsBefore, IsSoundImage, Stops, asking_of}
+use Rattle.xousorders.specs.Asked.{Asking, HostFiles, IsAsked, IsBefore, Stops, asking_of}
 use Rattle.xousorders.proofs.CallLemmas.{bytes_stop, events_refused, events_stop, exit_says, image_stops}
 use Rattle.xousorders.proofs.run.quest_of.Goals as goal
 
@@ -43,7 +44,7 @@ returns-in-Ok-clause-asked g c =
       image = c.in_ok-file.ensures.read;
       planned = record {
         args = planned.args;
-        sound = subst (λ (bytes : List ℕ). IsSoundImage bytes planned.args) c.deref.ensures.value c.in_ok-planned.ensures.image;
+        sound = subst (λ (bytes : List ℕ). IsSoundImage bytes None planned.args) c.deref.ensures.value c.in_ok-planned.ensures.image;
         planned = c.in_ok-planned.ensures.planned;
       };
       before = subst (λ (fs : HostFiles). IsBefore fs asking.before c.in_ok-before.before.items) c.read_image.ensures.file

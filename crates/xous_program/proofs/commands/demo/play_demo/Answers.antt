@@ -7,10 +7,11 @@ use Rattle.machine_history.specs.HistoryMoments.{moments_of}
 use Rattle.demo_load.specs.Events.{load_events, load_history, load_machine}
 use Rattle.demo_load.specs.Totals.{demo_line, totals_of}
 use Rattle.xous_program.specs.Outcome.Demo.{Demonstrates}
-use Rattle.xous_program.specs.Outcome.Sides.{SinkSide, sink_side, store_side}
+use Rattle.xous_program.specs.Outcome.Sides.{store_side}
+use Rattle.program_status.specs.Notes.{SinkSide, sink_side}
 use Rattle.event_player.specs.Rooms.{ComesFull, Room}
 use Rattle.event_player.specs.Standing.{room_in}
-use Rattle.xous_program.specs.declared.status.Status.TheVariants.{SwapFault}
+use Rattle.program_status.specs.declared.status.Status.TheVariants.{SwapFault}
 use Rattle.xous_program.proofs.Images.StartingLemmas.{asked_on, load_told, rose_before}
 use Rattle.xous_program.proofs.commands.demo.play_demo.Goals as goal
 

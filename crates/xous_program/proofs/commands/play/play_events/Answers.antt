@@ -9,12 +9,13 @@ use Rattle.xk_ports.specs.declared.host.FileSlot.TheVariants.{Second}
 use Rattle.event_player.specs.declared.event_file.RunFault.{RunFault}
 use Rattle.event_player.specs.declared.event_file.RunFault.TheVariants as faults
 use Rattle.event_player.specs.declared.ending.Ending.{Ending}
-use Rattle.xous_program.specs.declared.status.Status.{Status}
-use Rattle.xous_program.specs.declared.status.Status.TheVariants.{Done}
+use Rattle.program_status.specs.declared.status.Status.{Status}
+use Rattle.program_status.specs.declared.status.Status.TheVariants.{Done}
 use Rattle.xous_program.specs.Finish.{Finishes}
 use Rattle.event_player.specs.Gathering.{Text, put}
 use Rattle.event_player.specs.History.{run_of}
-use Rattle.xous_program.specs.Outcome.Sides.{Call, SinkSide, host_side, sink_side, store_side}
+use Rattle.xous_program.specs.Outcome.Sides.{Call, host_side, store_side}
+use Rattle.program_status.specs.Notes.{SinkSide, sink_side}
 use Rattle.event_player.specs.Playing.{PlaysOut, Runs, run_from}
 use Rattle.host_io.specs.Reading.{Asked}
 use Rattle.event_player.specs.Standing.{room_in, stand}

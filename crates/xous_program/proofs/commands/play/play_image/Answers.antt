@@ -3,7 +3,8 @@ use Rattle.vm_memory.specs.Memory.{size, store_of}
 use Rattle.xous_program.specs.Outcome.Starts.{Booted}
 use Rattle.event_player.specs.Gathering.{put}
 use Rattle.xous_program.specs.Outcome.Plays.{EndsPlay}
-use Rattle.xous_program.specs.Outcome.Sides.{Call, SinkSide, host_side, sink_side, store_side}
+use Rattle.xous_program.specs.Outcome.Sides.{Call, host_side, store_side}
+use Rattle.program_status.specs.Notes.{SinkSide, sink_side}
 use Rattle.host_io.specs.Reading.{IsTold}
 use Rattle.event_player.specs.Standing.{room_in}
 use Rattle.xous_program.specs.Words.{Play, play_in}

@@ -11,7 +11,8 @@ use Rattle.event_player.specs.declared.event_file.RunFault.TheVariants as faults
 use Rattle.event_player.specs.declared.telling.Telling.TheVariants.{Nothing}
 use Rattle.event_player.specs.Gathering.{put}
 use Rattle.event_player.specs.History.{run_of}
-use Rattle.xous_program.specs.Outcome.Sides.{Call, StoreSide, host_side, sink_side, store_side}
+use Rattle.xous_program.specs.Outcome.Sides.{Call, StoreSide, host_side, store_side}
+use Rattle.program_status.specs.Notes.{sink_side}
 use Rattle.event_text.specs.EventFile.{input_of}
 use Rattle.event_text.specs.Lines.{whole_lines}
 use Rattle.xous_program.specs.Outcome.Suspends.{silent}

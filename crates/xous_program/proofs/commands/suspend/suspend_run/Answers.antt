@@ -2,7 +2,8 @@ use Rattle.std.proofs.Common.{ℕ, List, [], Option, refl, sym, subst, inl, inr,
 use Rattle.vm_memory.specs.Memory.{size, store_of}
 use Rattle.xous_program.specs.Outcome.Starts.{Booted}
 use Rattle.event_player.specs.Gathering.{put}
-use Rattle.xous_program.specs.Outcome.Sides.{Call, SinkSide, host_side, sink_side, store_side}
+use Rattle.xous_program.specs.Outcome.Sides.{Call, host_side, store_side}
+use Rattle.program_status.specs.Notes.{SinkSide, sink_side}
 use Rattle.xous_program.specs.Outcome.Suspends.{EndsSuspend}
 use Rattle.host_io.specs.Reading.{IsTold}
 use Rattle.event_player.specs.Standing.{room_in}

@@ -1,0 +1,3 @@
+pub mod FileLemmas
+pub mod OnceLemmas
+pub mod StateLemmas

@@ -1,0 +1,2 @@
+pub mod ConvertedBootLemmas
+pub mod MovedStartLemmas

@@ -1,0 +1,4 @@
+pub mod FaultNames
+pub mod Notes
+pub mod Plans
+pub mod Status
