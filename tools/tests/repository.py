@@ -74,7 +74,7 @@ def checks_of_start(folder):
     for name in ("sh", "find", "head", "dirname"):
         (bare / name).symlink_to(shutil.which(name))
     status, _, said = tree.start(path=str(bare))
-    yield status == 127 and "where the kit is got stands in README.md" in said, "the command rt is missing"
+    yield status == 127 and "command not found: rt (Rattle kit). See README.md" in said, "the command rt is missing"
 
 
 def checks_of_copies():
