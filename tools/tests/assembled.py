@@ -1,15 +1,15 @@
-"""The words of an assembler in the program's tests: each is what llvm-mc makes of the source line beside it."""
+"""The words of an assembler in the cases of whole runs: each is what llvm-mc makes of the source line beside it."""
 
 import pathlib
 import re
 import shutil
 import subprocess
 
-TESTS = pathlib.Path(__file__).resolve().parent.parent.parent / "crates" / "xousim" / "src" / "tests"
-FILES = (*sorted((TESTS / "assembled").glob("*.rt")), TESTS / "commands" / "largest.rt")
+CASES = pathlib.Path(__file__).resolve().parent.parent.parent / "crates" / "run_cases" / "data"
+FILES = (CASES / "pages.cases", CASES / "largest.cases")
 ASSEMBLER = "llvm-mc"
 # A word, and its source line.
-ROW = re.compile(r"^ +0x([0-9A-F]{4})_([0-9A-F]{4}), // (.+)$", re.M)
+ROW = re.compile(r"^ +0x([0-9a-f]{8})  # (.+)$", re.M)
 ENCODED = re.compile(r"# encoding: \[(.*)\]")
 
 
@@ -22,10 +22,10 @@ def assembled(lines):
 
 def checks(_program, _folder):
     if not shutil.which(ASSEMBLER):
-        print(f"skipped the words of the tests: {ASSEMBLER} is missing; apt-get install llvm")
+        print(f"skipped the words of the cases: {ASSEMBLER} is missing; apt-get install llvm")
         return
     for file in FILES:
-        rows = [(int(high + low, 16), line) for high, low, line in ROW.findall(file.read_text())]
+        rows = [(int(word, 16), line) for word, line in ROW.findall(file.read_text())]
         yield bool(rows), f"{file.name}: there are words"
         words = assembled([line for _, line in rows])
         yield len(words) == len(rows), f"{file.name}: {len(words)} of {len(rows)} lines have a word"

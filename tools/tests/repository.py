@@ -1,4 +1,4 @@
-"""The copies of the examples in the program's tests, the must-fail edits, private fields, and `./xousim`, which starts the program."""
+"""The copies of the examples in the cases of whole runs, the must-fail edits, private fields, and `./xousim`, which starts the program."""
 
 import os
 import pathlib
@@ -79,8 +79,7 @@ def checks_of_start(folder):
 
 def checks_of_copies():
     copier = load("copy-examples")
-    text = copier.COPIES.read_text()
-    is_same = copier.with_tables(text) == text
+    is_same = copier.COPIES.read_text() == copier.copies()
     yield is_same, "the copies of the examples: make them by tools/copy-examples"
     if not is_same:
         return
