@@ -99,6 +99,3 @@ fn answer_arrival(
         None => answer_and_tell(threads, log, who, plain),
     }
 }
-
-#[cfg(test)]
-mod tests;

@@ -148,6 +148,3 @@ fn moved_to(mut message: Message, first: Vpn) -> Message
     message.first = first;
     message
 }
-
-#[cfg(test)]
-mod tests;

@@ -224,6 +224,3 @@ fn new_message(asked: &Asked, number: Number, who: ThreadId, kind: MsgKind, firs
         count,
     }
 }
-
-#[cfg(test)]
-mod tests;
