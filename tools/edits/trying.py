@@ -75,7 +75,7 @@ def judge(trial, said, fell):
     if own and not said.functions[own[0]].startswith("could not tell"):
         why, only_names = said.reason(own[0])
         trial.end(NAME_ALONE if only_names else REFUSED, why)
-    elif trial.symbols and all(said.functions[symbol].startswith("proved") for symbol in trial.symbols):
+    elif trial.symbols and all(said.functions.get(symbol, "").startswith("proved") for symbol in trial.symbols):
         trial.end(NOT_REFUSED, f"{', '.join(sorted(trial.symbols))} is still proved")
 
 
