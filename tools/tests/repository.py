@@ -5,6 +5,8 @@ import pathlib
 import shutil
 import subprocess
 
+from edits import reading
+
 from .loading import TOOLS, load
 
 
@@ -100,24 +102,24 @@ BAD_EDITS = {
 }
 
 
-def is_applied(try_edit, crate, text):
+def is_applied(crate, text):
     try:
-        try_edit(crate, text)
+        reading.texts_with(crate, reading.pairs_of(text))
     except ValueError:
         return False
     return True
 
 
 def checks_of_edits(folder):
-    checker, crate = load("check-edits"), pathlib.Path(folder, "edited")
+    crate = pathlib.Path(folder, "edited")
     for name in ("src/lib.rt", "specs/Lib.antt", "must-fail/first.edit"):
         (crate / name).parent.mkdir(parents=True)
         (crate / name).write_text("one three three\n")
-    yield is_applied(checker.try_edit, crate, EDIT), "an edit"
-    yield is_applied(checker.try_edit, crate, EDIT + "old: two three\nnew:\n"), "an edit of what it put in"
+    yield is_applied(crate, EDIT), "an edit"
+    yield is_applied(crate, EDIT + "old: two three\nnew:\n"), "an edit of what it put in"
     for name, text in BAD_EDITS.items():
-        yield not is_applied(checker.try_edit, crate, text), f"an edit of {name}"
-    yield from checks_of_same_edits(checker.wrong_edits, crate)
+        yield not is_applied(crate, text), f"an edit of {name}"
+    yield from checks_of_same_edits(load("check-edits").wrong_edits, crate)
 
 
 def checks_of_same_edits(wrong_edits, crate):
