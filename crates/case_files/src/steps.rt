@@ -41,16 +41,16 @@ fn push_part(bytes: &mut Vec<u8>, book: &Book, text: &str) -> Result<(), Wrong> 
 
 /// Where a line begins that has so many lines before it.
 fn line_start(bytes: &[u8], lines: usize) -> Option<usize> {
-    let mut before = 0;
+    let mut left = lines;
     for (at, byte) in bytes.iter().enumerate() {
-        if before == lines {
+        if left == 0 {
             return Some(at);
         }
         if *byte == b'\n' {
-            before += 1;
+            left -= 1;
         }
     }
-    (before == lines).then_some(bytes.len())
+    (left == 0).then_some(bytes.len())
 }
 
 /// The first lines of a byte string, or those behind them.

@@ -4,8 +4,6 @@
 mod commands;
 mod notes;
 mod status;
-#[cfg(test)]
-mod tests;
 mod top;
 
 pub use notes::write_note;

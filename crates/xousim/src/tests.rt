@@ -61,8 +61,14 @@ fn run<H: Host, W: SwapStore>(
     let words = words(alloc, texts)?;
     let mut out = SureSink::new(alloc, 1000)?;
     let mut notes = SureSink::new(alloc, 100)?;
-    let Ended { status, store: _ } =
-        xous_main(alloc, words.as_slice(), host, &mut out, &mut notes, store);
+    let Ended { status, store: _ } = xous_main(
+        alloc,
+        words.as_slice(),
+        host,
+        &mut out,
+        &mut notes,
+        store,
+    );
     let out = out.as_slice().to_vec(alloc)?;
     let notes = notes.as_slice().to_vec(alloc)?;
     Ok(Left { status, out, notes })
@@ -101,13 +107,7 @@ fn real_files(rt: HostRuntime) -> Result<(), Fail> {
     for name in ["no-such-file", "."] {
         let mut host = FileHost::new(&rt);
         let left = run(alloc, &["trace", name, name], &mut host, SureStore::new())?;
-        expect_left(
-            &rt,
-            alloc,
-            &left,
-            Status::ReadFault,
-            (&[], b"read fault\n"),
-        )?;
+        expect_left(&rt, alloc, &left, Status::ReadFault, (&[], b"read fault\n"))?;
     }
     Ok(())
 }
@@ -157,6 +157,45 @@ fn real_store(rt: HostRuntime) -> Result<(), Fail> {
         let file = fs::read(&rt, name)?;
         assert_eq!(rt; file.len(), 9 * 4096);
     }
+    fs::remove_file(&rt, name)?;
+    Ok(())
+}
+
+/// So many slots of the file have this page.
+fn expect_slots(rt: &impl Abort, file: &[u8], page: &[u8; 4096], wanted: usize) {
+    let found = file
+        .chunks(4096)
+        .filter(|slot| *slot == page.as_slice())
+        .count();
+    assert_eq!(rt; found, wanted);
+}
+
+/// A run whose last step stores on the stack, by `sw a5, -4(sp)` in place of the store to the console, leaves that page
+/// in RAM. The other nine are the slots': the page of the code and eight of zeros.
+#[test]
+fn pages_stand_whole_in_their_file(rt: HostRuntime) -> Result<(), Fail> {
+    let alloc = rt.alloc();
+    let name = "whole-pages.swap";
+    let mut image = one_frame_image();
+    image[80..84].copy_from_slice(&0xFEF1_2E23_u32.to_le_bytes());
+    let mut host = host_of(alloc, &image)?;
+    let disk = RealDisk::new(&rt);
+    let store = ProgramStore::new(alloc, &disk);
+    let left = run(
+        alloc,
+        &["trace", "i", "e", "8", "9", name],
+        &mut host,
+        store,
+    )?;
+    let [call, reply, _, _] = FIRST_LINES;
+    let lines = [call, reply, "end 8 limit\n"];
+    let limit = (lines.as_slice(), b"step limit 8\n".as_slice());
+    expect_left(&rt, alloc, &left, Status::StepLimit(8), limit)?;
+    let file = fs::read(&rt, name)?;
+    let mut code = [0; 4096];
+    code[..36].copy_from_slice(&image[52..]);
+    expect_slots(&rt, file.as_slice(), &code, 1);
+    expect_slots(&rt, file.as_slice(), &[0; 4096], 8);
     fs::remove_file(&rt, name)?;
     Ok(())
 }
