@@ -10,5 +10,5 @@ mod status;
 pub use faults::{BAD_SPLIT, fault_name};
 pub use notes::write_note;
 pub use planning::{Planned, plan_bytes};
-pub use starting::{hold_descriptors, all_words};
+pub use starting::{all_words, hold_descriptors};
 pub use status::Status;

@@ -62,8 +62,8 @@ pub fn play_events<H: Host, K: Sink, W: SwapStore>(
           room = room_in kernel.old;
           slots = (size kernel.old.mem).slots;
         } in let call = call_of (host_side H.Host host.old host.new) (sink_side K.Sink out.old out.new)
-            (store_side W.SwapStore (store_of kernel.old.mem) (store_of kernel.new.mem)) result in
-            EndsBooted (play_in play.entry) booted call }
+        (store_side W.SwapStore (store_of kernel.old.mem) (store_of kernel.new.mem)) result in
+        EndsBooted (play_in play.entry) booted call }
     ensures sound { IsSound W.SwapStore kernel.new }
     ensures keeps { Keeps W.SwapStore kernel.old kernel.new }
     ensures first { H.left host.new First ≡ H.left host.old First }
