@@ -6,6 +6,7 @@ mod notes;
 mod status;
 mod top;
 
+pub use commands::states::STATE_LIMIT;
 pub use notes::write_note;
 pub use status::{Ended, Status};
 pub use top::xous_main;

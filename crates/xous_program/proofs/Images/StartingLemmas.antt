@@ -8,7 +8,7 @@ use Rattle.kernel_args.specs.declared.args.Args.{Args}
 use Rattle.xous_program.specs.Outcome.Images.{Image}
 use Rattle.program_status.specs.Plans.{IsSoundImage}
 use Rattle.xous_program.specs.Outcome.Demo.{TellsDemo}
-use Rattle.xous_program.specs.Outcome.Sides.{StoreSide, Told}
+use Rattle.xous_program.specs.Outcome.Sides.{Prepares, StoreRose, StoreSide, Told, store_side}
 use Rattle.program_status.specs.Notes.{SinkSide}
 use Rattle.demo_load.specs.Events.{load_history, load_machine, load_plan}
 use Rattle.demo_load.specs.Image.{load_image}
@@ -21,6 +21,8 @@ use Rattle.machine_model.specs.State.Machine.{Machine}
 use Rattle.sv32_space.specs.Tie.{Held}
 use Rattle.vm_memory.specs.Bytes.{MeansBytes, none_out}
 use Rattle.vm_memory.specs.Memory.{Size, size}
+use Rattle.vm_memory.specs.declared.memory.BootError.{BootError}
+use Rattle.vm_memory.specs.declared.memory.BootError.TheVariants as boot
 use Rattle.xk_base.specs.Outside.{Rose}
 use Rattle.xk_kernel.specs.Knowing.{ComesTo}
 use Rattle.xk_kernel.specs.Start.{start}
@@ -32,7 +34,7 @@ use Rattle.xk_ports.specs.Store.{StoreAsked}
 use Rattle.xk_ports.specs.Told.{Grows, GrowsByProperPrefix}
 use Rattle.event_player.specs.Gathering.{Text}
 use Rattle.event_player.specs.Rooms.{IsFull, Room}
-use Rattle.xous_program.specs.Outcome.Starts.{Stops, room_of}
+use Rattle.xous_program.specs.Outcome.Starts.{Stops, StopsIn, room_of, status_of}
 use Rattle.event_player.specs.Standing.{Begins, room_in, stand}
 use Rattle.event_player.proofs.Playing.StandingLemmas.{near_means, trusted_means}
 
@@ -87,6 +89,22 @@ asked_on before mid after entry same grown = let G : Option (List StoreAsked) �
 
 pub rose_before : (old mid new : ℕ) → old ≤ mid → Rose mid new → Rose old new
 rose_before old mid new later rose = omega arith
+
+-- a run whose kernel isn't made stops
+boot_stops : (room : Room) (slots : ℕ) (name : Option (List ℕ)) (first : Machine) (store : StoreSide) (why : BootError) → Prepares store slots name true
+    → (why ≡ boot.SwapFault → StoreRose store) → (why ≡ boot.SwapFault → IsFull room first) → StopsIn room slots name first store (status_of why)
+boot_stops room slots name first store boot.NoMemory prepared rose full = inr prepared
+boot_stops room slots name first store boot.SwapFault prepared rose full = (rose refl, inr (prepared, full refl))
+
+-- .. with the status and the store of how its call ends
+pub fault_stops : {W : Type 0} (S : SwapStore W) (room : Room) (slots : ℕ) (name : Option (List ℕ)) (first : Machine) (store back left : W)
+    (why : BootError) (status : Status) → status ≡ status_of why → left ≡ back → Prepares (store_side S store back) slots name true
+    → (why ≡ boot.SwapFault → Rose (S.faults store) (S.faults back)) → (why ≡ boot.SwapFault → IsFull room first)
+    → StopsIn room slots name first (store_side S store left) status
+fault_stops {W} S room slots name first store back left why status is same prepared rose full =
+    let P : Status → Type 0 = λ s. StopsIn room slots name first (store_side S store left) s in
+    let Q : W → Type 0 = λ w. StopsIn room slots name first (store_side S store w) (status_of why) in
+    subst P (sym is) (subst Q (sym same) (boot_stops room slots name first (store_side S store back) why prepared rose full))
 
 -- facts of an answer together
 pub all_ok : {T E : Type 0} (r : Result T E) (A B C D Q : T → Type 0) → ((x : T) → A x → B x → C x → D x → Q x) → IfOk r A → IfOk r B → IfOk r C → IfOk r D → IfOk r Q

@@ -8,6 +8,8 @@ use Rattle.machine_history.specs.HistoryMoments.{moments_of}
 use Rattle.event_player.specs.Rooms.{ComesFull, IsFull, Room}
 use Rattle.program_status.specs.declared.status.Status.{Status}
 use Rattle.program_status.specs.declared.status.Status.TheVariants.{SwapFault, NoMemory}
+use Rattle.vm_memory.specs.declared.memory.BootError.{BootError}
+use Rattle.vm_memory.specs.declared.memory.BootError.TheVariants as boot
 use Rattle.xous_program.specs.Outcome.Sides.{IsTrusted, Prepares, StoreRose, StoreSide}
 
 -- the room of a plan: the frames that no table takes, but for one that stays free for exchanges
@@ -29,6 +31,11 @@ booted_of plan machine = record { machine = machine; room = room_of plan; slots 
 abbrev pub KnowsPages : StoreSide → Booted → ℕ → List Event → Type 0
 KnowsPages store booted limit events =
     IsTrusted store booted.slots ⊎ (¬ ComesFull booted.room booted.machine (moments_of events limit booted.machine))
+
+-- how a call ends whose kernel isn't made, by the cause
+abbrev pub status_of : BootError → Status
+status_of boot.NoMemory = NoMemory
+status_of boot.SwapFault = SwapFault
 
 -- A run of so many slots, with this room for pages in RAM, which is to start on this machine, doesn't start, by the status: there was no
 -- memory, before or after the store was prepared under this name; or the store failed and its count rose, as it was prepared, or after that

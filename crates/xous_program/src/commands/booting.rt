@@ -19,7 +19,7 @@ ghost use Rattle.program_status.specs.Plans.{IsSoundImage};
 ghost use Rattle.xous_program.specs.Outcome.Plays.{EndsRefused, EndsUnstarted};
 ghost use Rattle.xous_program.specs.Outcome.Sides.{Prepares, call_of, host_side, store_side};
 ghost use Rattle.program_status.specs.Notes.{SinkSide};
-ghost use Rattle.xous_program.specs.Outcome.Starts.{Stops, room_of};
+ghost use Rattle.xous_program.specs.Outcome.Starts.{Stops, room_of, status_of};
 ghost use Rattle.host_io.specs.Reading.{Asked, AsksFor, IsFile, IsTold};
 ghost use Rattle.event_player.specs.Standing.{Begins, room_in, stand};
 ghost use Rattle.xous_program.specs.Words.{play_in};
@@ -79,6 +79,19 @@ pub fn plan_image<H: Host>(
     }
 }
 
+/// How a call ends whose kernel isn't made: `SwapFault` or `NoMemory`, with the store that comes back.
+pub fn ended_of<W>(fault: BootFault<W>) -> Ended<W>
+    ensures status { result.status ≡ status_of fault.why }
+    ensures store { result.store ≡ fault.store }
+{
+    let BootFault { why, store } = fault;
+    let status = match why {
+        BootError::NoMemory => Status::NoMemory,
+        BootError::SwapFault => Status::SwapFault,
+    };
+    Ended { status, store }
+}
+
 /// Prepares the store for a run of this plan, under this name if there is one, and boots the plan with the
 /// bytes of its file; or says why not, `SwapFault` or `NoMemory`, and hands the store back.
 pub fn start_run<W: SwapStore>(
@@ -118,24 +131,7 @@ pub fn start_run<W: SwapStore>(
     }
     match Kernel::boot(alloc, plan, file, store) {
         Ok(kernel) => Ok(kernel),
-        Err(
-            BootFault {
-                why: BootError::SwapFault,
-                store,
-            },
-        ) => Err(Ended {
-            status: Status::SwapFault,
-            store,
-        }),
-        Err(
-            BootFault {
-                why: BootError::NoMemory,
-                store,
-            },
-        ) => Err(Ended {
-            status: Status::NoMemory,
-            store,
-        }),
+        Err(fault) => Err(ended_of(fault)),
     }
 }
 

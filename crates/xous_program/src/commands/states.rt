@@ -23,6 +23,7 @@ ghost use Rattle.event_player.specs.Standing.{Begins, room_in, stand};
 ghost use Rattle.xous_program.specs.StateFiles.{IsBadSplit, IsSoundState};
 ghost use Rattle.xous_program.specs.Words.{resume_in};
 
+use crate::commands::booting::ended_of;
 use crate::commands::command::ResumeWords;
 use crate::status::{Ended, Status};
 use boot_plan::TOO_LONG;
@@ -31,7 +32,6 @@ use kernel_args::ArgFault;
 use program_status::BAD_SPLIT;
 use std::alloc::Global;
 use suspend_image::{State, StateError, read_state};
-use vm_memory::{BootError, BootFault};
 use xk_base::limits::{FRAME_LIMIT, TABLE_FRAMES};
 use xk_kernel::Kernel;
 use xk_ports::{FileSlot, Host, StoreFault, SwapStore};
@@ -147,24 +147,7 @@ pub fn resume_state<W: SwapStore>(
     }
     match Kernel::resume(alloc, state, file, slots, store) {
         Ok(kernel) => Ok(kernel),
-        Err(
-            BootFault {
-                why: BootError::SwapFault,
-                store,
-            },
-        ) => Err(Ended {
-            status: Status::SwapFault,
-            store,
-        }),
-        Err(
-            BootFault {
-                why: BootError::NoMemory,
-                store,
-            },
-        ) => Err(Ended {
-            status: Status::NoMemory,
-            store,
-        }),
+        Err(fault) => Err(ended_of(fault)),
     }
 }
 
