@@ -11,28 +11,40 @@ const FILE: [u8; 100] = *b"XousSt01d\x00\x00\x00\x9f\xd3\x00\x00\
 
 #[test]
 fn small_state_is_written(rt: HostRuntime) {
-    match (
+    let (Ok(state), Ok(mut sheet)) = (
         read_state(rt.alloc(), FILE.as_slice()),
         Sheet::new(rt.alloc(), 1, 7),
-    ) {
-        (Ok(state), Ok(mut sheet)) => {
-            begin_state(&mut sheet);
-            sheet.push_words(&[state.cap, state.n, state.steps]);
-            sheet.push_words(&[state.cursor_pid, state.cursor_tid]);
-            sheet.push_words(&[state.next_number, state.next_serial]);
-            sheet.push_words(&[state.armed, state.compare]);
-            sheet.push_words(&[state.reserved, state.reserved_pid]);
-            sheet.push_words(&[state.reserved_tid, state.reserved_address]);
-            let [row] = state.procs.as_slice() else {
-                panic!(rt; "one process");
-            };
-            assert!(rt; row.serials.as_slice().is_empty());
-            sheet.push_words(&[row.alive, row.heap, 0]);
-            // No thread, server, claim, page or orphan.
-            sheet.push_words(&[0; 5]);
-            finish_state(&mut sheet);
-            assert_eq!(rt; sheet.as_slice(), FILE.as_slice());
-        }
-        _ => assert!(rt; false),
+    ) else {
+        panic!(rt; "no state");
+    };
+    let [row] = state.procs.as_slice() else {
+        panic!(rt; "one process");
+    };
+    let numbers = [
+        state.cap,
+        state.n,
+        state.steps,
+        state.cursor_pid,
+        state.cursor_tid,
+        state.next_number,
+        state.next_serial,
+        state.armed,
+        state.compare,
+        state.reserved,
+        state.reserved_pid,
+        state.reserved_tid,
+        state.reserved_address,
+        row.alive,
+        row.heap,
+    ];
+    // Behind them are no connections, threads, servers, claims, pages and orphans.
+    let mut parts = [0; 84];
+    for k in 0..numbers.len() {
+        parts[4 * k..4 * k + 4].copy_from_slice(&numbers[k].to_le_bytes());
     }
+    begin_state(&mut sheet);
+    sheet.push_bytes(&parts);
+    assert!(rt; sheet.as_slice().len() == 100);
+    finish_state(&mut sheet);
+    assert_eq!(rt; sheet.as_slice(), FILE.as_slice());
 }
