@@ -39,7 +39,7 @@ pub enum WantedOut {
 pub struct Wanted {
     /// The number of the status.
     pub number: u32,
-    /// The note of the status, without its line feed.
+    /// The note of the status.
     pub note: Vec<u8>,
     /// Whether the note stands on the notes.
     pub is_noted: bool,

@@ -180,6 +180,9 @@ fn read_wanted(alloc: Global, wanted: &mut Wanted, word: &str, rest: &str) -> Re
             let (status, note) = next_word(rest);
             wanted.number = number(status)?;
             wanted.note = note.as_bytes().to_vec(alloc)?;
+            if !note.is_empty() {
+                wanted.note.push(b'\n')?;
+            }
         }
         "no-notes" => wanted.is_noted = false,
         "length" => wanted.length = Some(place(rest)?),

@@ -1,5 +1,8 @@
 //! Whether what a run left is as wanted.
 
+ghost use Rattle.std.specs.Prelude.{IsNone, IsTrue};
+ghost use Rattle.case_files.specs.Judging.{IsAsWanted, IsOutWanted};
+
 use crate::case::{Wanted, WantedOut};
 use thiserror::Error;
 
@@ -8,7 +11,7 @@ use thiserror::Error;
 pub struct Left {
     /// The number of its status.
     pub number: u32,
-    /// The note of its status, without its line feed.
+    /// The note of its status.
     pub note: Vec<u8>,
     pub out: Vec<u8>,
     pub notes: Vec<u8>,
@@ -52,15 +55,6 @@ pub fn lines_told(text: &[u8]) -> usize {
     text.iter().filter(|byte| **byte == b'\n').count()
 }
 
-/// The text is a note with its line feed, or nothing where there is no note.
-fn is_line(text: &[u8], note: &[u8]) -> bool {
-    match text {
-        [] => note.is_empty(),
-        [line @ .., b'\n'] => !note.is_empty() && line == note,
-        _ => false,
-    }
-}
-
 /// The word of a line that a line feed or a space ends: its step.
 fn step_of(line: &[u8]) -> &[u8] {
     let end = line.iter().position(|byte| *byte == b' ' || *byte == b'\n');
@@ -81,15 +75,22 @@ fn last_line(text: &[u8]) -> &[u8] {
     }
 }
 
+/// The output is as wanted.
+fn is_out_wanted(wanted: &WantedOut, out: &[u8]) -> bool
+    ensures { IsTrue result → IsOutWanted wanted.now out.now }
+{
+    match wanted {
+        WantedOut::Whole(bytes) => out == bytes.as_slice(),
+        WantedOut::Last(bytes) => out.ends_with(bytes.as_slice()),
+        WantedOut::Any => true,
+    }
+}
+
 impl Wanted {
     /// The first thing that isn't as wanted.
-    pub fn difference(&self, left: &Left) -> Option<Difference> {
-        self.status_difference(left)
-            .or_else(|| self.out_difference(left.out.as_slice()))
-    }
-
-    /// The same of the status and the notes.
-    fn status_difference(&self, left: &Left) -> Option<Difference> {
+    pub fn difference(&self, left: &Left) -> Option<Difference>
+        ensures { IsNone result → IsAsWanted self.now left.now }
+    {
         let note = self.note.as_slice();
         if left.number != self.number {
             return Some(Difference::Number);
@@ -97,23 +98,18 @@ impl Wanted {
         if left.note.as_slice() != note {
             return Some(Difference::Note);
         }
-        let on_notes = if self.is_noted { note } else { b"" };
-        if !is_line(left.notes.as_slice(), on_notes) {
+        let notes = if self.is_noted { note } else { b"" };
+        if left.notes.as_slice() != notes {
             return Some(Difference::Notes);
         }
-        None
-    }
-
-    /// The same of the output.
-    fn out_difference(&self, out: &[u8]) -> Option<Difference> {
-        let is_as_wanted = match &self.out {
-            WantedOut::Whole(bytes) => out == bytes.as_slice(),
-            WantedOut::Last(bytes) => out.ends_with(bytes.as_slice()),
-            WantedOut::Any => true,
-        };
-        if !is_as_wanted {
+        if !is_out_wanted(&self.out, left.out.as_slice()) {
             return Some(Difference::Out);
         }
+        self.further_difference(left.out.as_slice())
+    }
+
+    /// The same of the length of the output, and of its parts.
+    fn further_difference(&self, out: &[u8]) -> Option<Difference> {
         if self.length.is_some_and(|length| length != out.len()) {
             return Some(Difference::Length);
         }
@@ -125,7 +121,7 @@ impl Wanted {
         None
     }
 
-    /// The output that is wanted, if it is wanted as a whole.
+    /// The bytes that are wanted as the output or as its end.
     pub fn whole(&self) -> &[u8] {
         match &self.out {
             WantedOut::Whole(bytes) => bytes.as_slice(),
@@ -150,7 +146,7 @@ pub fn fault_difference(
     if left.note.as_slice() != note {
         return Some(Difference::Note);
     }
-    if !is_line(left.notes.as_slice(), note) {
+    if left.notes.as_slice() != note {
         return Some(Difference::Notes);
     }
     let told = left.out.as_slice();

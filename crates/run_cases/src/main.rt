@@ -6,8 +6,8 @@ mod playing;
 mod sweeping;
 mod telling;
 
-use anyhow::{Context, Result, anyhow, ensure};
-use case_files::{Block, Book, are_same, blocks, case_of, define, rows_of};
+use anyhow::{Context, Error, Result, anyhow, ensure};
+use case_files::{Block, Book, Difference, are_same, blocks, case_of, define, rows_of};
 use std::alloc::Global;
 use std::fs;
 use std::rt::Files;
@@ -48,6 +48,11 @@ const FILES: [&str; 30] = [
     "sweeps.cases",
 ];
 
+/// A case isn't as wanted.
+fn unwanted(line: u32, name: &str, difference: Difference) -> Error {
+    anyhow!("line {line}: {name}: not as wanted: {difference}")
+}
+
 /// Plays a case, and keeps its output where the case says so.
 fn play_row<R: Print>(
     rt: &R,
@@ -60,8 +65,7 @@ fn play_row<R: Print>(
     let played = play_case(alloc, &case)?;
     if let Some(difference) = played.difference {
         tell_difference(rt, &case, &played.left, row)?;
-        let (line, name) = (block.head.number, block.head.text);
-        return Err(anyhow!("line {line}: {name}: not as wanted: {difference}"));
+        return Err(unwanted(block.head.number, block.head.text, difference));
     }
     if let Some(name) = &case.keep {
         book.put_text(alloc, name.as_str(), played.left.out)?;

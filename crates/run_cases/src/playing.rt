@@ -36,12 +36,11 @@ fn host_of(alloc: Global, case: &Case, outside: Outside) -> Result<MemHost, Wron
     Ok(MemHost::new(alloc, files, outside.piece.max(1), fails, 100)?)
 }
 
-/// The note of a status, without its line feed.
+/// The note of a status.
 fn note_of(alloc: Global, status: Status) -> Result<Vec<u8>, Wrong> {
-    let mut note = sink_of(alloc, NOTES_ROOM + 100, 0)?;
+    let mut note = sink_of(alloc, NOTES_ROOM, 0)?;
     write_note(status, &mut note);
-    let text = note.as_slice();
-    Ok(text.strip_suffix(b"\n").unwrap_or(text).to_vec(alloc)?)
+    Ok(note.as_slice().to_vec(alloc)?)
 }
 
 /// What is left of a run.

@@ -1,5 +1,8 @@
 //! Cases that are called once, and those where each call of the output or of the store fails in turn.
 
+ghost use Rattle.std.specs.Prelude.{IfOk, IsNone};
+ghost use Rattle.case_files.specs.Judging.{IsAsWanted};
+
 use crate::playing::play_once;
 use case_files::{Case, Difference, Left, Outside, Sweep, Wrong, fault_difference, lines_told};
 use std::alloc::Global;
@@ -16,7 +19,9 @@ pub struct Played {
 
 /// Each write fails, as long as there is one that can: there stands a part from the front. How the text is cut into writes is
 /// no rule.
-fn play_writes(alloc: Global, case: &Case) -> Result<Played, Wrong> {
+fn play_writes(alloc: Global, case: &Case) -> Result<Played, Wrong>
+    ensures { IfOk result (λ played. IsNone played.difference → IsAsWanted case.now.wanted played.left) }
+{
     for call in 1..CALLS {
         let outside = Outside {
             out: call,
@@ -27,10 +32,11 @@ fn play_writes(alloc: Global, case: &Case) -> Result<Played, Wrong> {
             let difference = case.wanted.difference(&left);
             return Ok(Played { left, difference });
         }
-        let fault = (4, b"write fault".as_slice());
+        let fault = (4, b"write fault\n".as_slice());
         let whole = case.wanted.whole();
         let difference = fault_difference(fault, whole, &left, (call, false));
-        if difference.is_some() {
+        if let Some(difference) = difference {
+            let difference = Some(difference);
             return Ok(Played { left, difference });
         }
     }
@@ -38,7 +44,9 @@ fn play_writes(alloc: Global, case: &Case) -> Result<Played, Wrong> {
 }
 
 /// More calls fail than expected.
-fn without_end(alloc: Global, case: &Case) -> Result<Played, Wrong> {
+fn without_end(alloc: Global, case: &Case) -> Result<Played, Wrong>
+    ensures { IfOk result (λ played. IsNone played.difference → IsAsWanted case.now.wanted played.left) }
+{
     Ok(Played {
         left: play_once(alloc, case, case.outside)?,
         difference: Some(Difference::Calls),
@@ -46,16 +54,20 @@ fn without_end(alloc: Global, case: &Case) -> Result<Played, Wrong> {
 }
 
 /// Nothing failed, and the last call that left the lines has this number.
-fn last_played(case: &Case, left: Left, (last, above): (u64, u64)) -> Played {
-    let mut difference = case.wanted.difference(&left);
-    if difference.is_none() && last <= above {
-        difference = Some(Difference::LastCall);
-    }
+fn last_played(case: &Case, left: Left, last: u64, above: u64) -> Played
+    ensures { IsNone result.difference → IsAsWanted case.now.wanted result.left }
+{
+    let difference = match case.wanted.difference(&left) {
+        None if last <= above => Some(Difference::LastCall),
+        difference => difference,
+    };
     Played { left, difference }
 }
 
 /// Each call of the store fails, as long as there is one that can: there stand the lines of whole steps.
-fn play_store_calls(alloc: Global, case: &Case, lines: usize, above: u64) -> Result<Played, Wrong> {
+fn play_store_calls(alloc: Global, case: &Case, lines: usize, above: u64) -> Result<Played, Wrong>
+    ensures { IfOk result (λ played. IsNone played.difference → IsAsWanted case.now.wanted played.left) }
+{
     let mut last = 0;
     for call in 1..CALLS {
         let outside = Outside {
@@ -64,12 +76,13 @@ fn play_store_calls(alloc: Global, case: &Case, lines: usize, above: u64) -> Res
         };
         let left = play_once(alloc, case, outside)?;
         if left.number == 0 {
-            return Ok(last_played(case, left, (last, above)));
+            return Ok(last_played(case, left, last, above));
         }
-        let fault = (8, b"swap fault".as_slice());
+        let fault = (8, b"swap fault\n".as_slice());
         let whole = case.wanted.whole();
         let difference = fault_difference(fault, whole, &left, (call, true));
-        if difference.is_some() {
+        if let Some(difference) = difference {
+            let difference = Some(difference);
             return Ok(Played { left, difference });
         }
         if lines_told(left.out.as_slice()) == lines {
@@ -80,7 +93,9 @@ fn play_store_calls(alloc: Global, case: &Case, lines: usize, above: u64) -> Res
 }
 
 /// Calls the program as often as a case says.
-pub fn play_case(alloc: Global, case: &Case) -> Result<Played, Wrong> {
+pub fn play_case(alloc: Global, case: &Case) -> Result<Played, Wrong>
+    ensures { IfOk result (λ played. IsNone played.difference → IsAsWanted case.now.wanted played.left) }
+{
     match case.sweep {
         Sweep::Once => {
             let left = play_once(alloc, case, case.outside)?;

@@ -22,8 +22,8 @@ pub fn tell_difference<R: Print>(
         println!(rt; "row: {row}")?;
     }
     tell(rt, "status that is wanted:", case.wanted.note.as_slice())?;
-    tell(rt, "\nstatus:", left.note.as_slice())?;
-    tell(rt, "\noutput that is wanted:", case.wanted.whole())?;
+    tell(rt, "status:", left.note.as_slice())?;
+    tell(rt, "output that is wanted:", case.wanted.whole())?;
     tell(rt, "output:", left.out.as_slice())?;
     tell(rt, "notes:", left.notes.as_slice())
 }
