@@ -11,6 +11,7 @@ ghost use Rattle.xousorders.specs.Outcomes.{IsStopped};
 use crate::outcome::stopped;
 use node_laws::{Move, Note};
 use order_space::{Quest, Stand};
+use program_status::Status;
 use seen_text::put_seen;
 use state_search::{Found, Unanswered, path_to};
 use std::alloc::{AllocError, Global};
