@@ -1,6 +1,10 @@
-use Rattle.std.proofs.Common.{◌≡◌, ◌≤◌, ◌∙◌, ap, sym, subst, List, ℕ, length, Some, arith}
+use Rattle.std.proofs.Common.{◌≡◌, ◌<◌, ◌≤◌, ◌∙◌, ap, refl, sym, subst, List, ℕ, length, Some, arith}
 use Rattle.kernel_args.specs.Converting.{IsConvertible, converted}
+use Rattle.program_status.specs.Notes.{sink_side}
+use Rattle.program_status.specs.declared.status.Status.TheVariants.{ImageFault}
 use Rattle.xk_base.specs.declared.limits.TheConstants.{IMAGE_LIMIT, SLOT_LIMIT}
+use Rattle.xous_program.specs.Outcome.Convert.{long_file}
+use Rattle.xous_program.specs.Outcome.Sides.{Call, call_of, host_side}
 use Rattle.xous_program.proofs.Images.ConvertLemmas.{convertible, ends_written, kept, made}
 use Rattle.xous_program.proofs.commands.convert.convert_image.Goals as goal
 
@@ -11,6 +15,20 @@ returns-then-planned-ne1-clause-ends g c = λ store.
     let image : List ℕ = planned.bytes.items in
     ends_written c.args.image.now image c.as_slice-bytes.result.now planned.args _ is.picked is.read is.image
     (c.as_slice-bytes.ensures.value ∙ kept image planned.args c.if-planned-ne1.true) is.end c.write_image.ensures.written c.write_image.ensures.cause
+
+pub returns-then-converted_len-clause-ends : goal.returns-then-converted_len-clause-ends
+returns-then-converted_len-clause-ends g c = λ store.
+    let planned = c.in-Ok.planned in
+    let is = c.in-Ok.ensures in
+    let image : List ℕ = planned.bytes.items in
+    let read : List ℕ = c.as_slice-bytes.result.now in
+    let call : Call = call_of (host_side g.H.Host c.args.host.now c.plan_image.new.host)
+    (sink_side g.K.Sink c.args.out.now c.args.out.now) store (ImageFault long_file) in
+    let same : converted read planned.args ≡ converted image planned.args =
+    ap (λ (bytes : List ℕ). converted bytes planned.args) c.as_slice-bytes.ensures.value in
+    let long : IMAGE_LIMIT < length (converted read planned.args) = omega (arith, c.converted_len.ensures, c.if-converted_len.true) in
+    ends_written c.args.image.now image (converted read planned.args) planned.args call is.picked is.read is.image
+    (same ∙ made image planned.args c.if-planned-ne1.false) is.end (long, refl, refl) (λ failed. absurd (cc))
 
 pub convert-requires : goal.convert-requires
 convert-requires g c =
