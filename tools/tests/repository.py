@@ -1,82 +1,21 @@
 """The copies of the examples in the cases of whole runs, the must-fail edits, private fields, and `./xousim`, which starts the program."""
 
-import os
 import pathlib
-import shutil
 import subprocess
+import unittest
 
 from edits import reading
 
 from .loading import TOOLS, load
 
 
-class Checkout:
-    """A folder as a checkout is, whose program and whose commands rt and find only tell that they were called."""
+def checks_of_start():
+    """The tests of ./xousim stand in a module of their own."""
+    from . import test_launcher
 
-    def __init__(self, folder):
-        self.top = pathlib.Path(folder, "checkout")
-        self.commands = pathlib.Path(folder, "commands")
-        self.top.mkdir()
-        shutil.copy(TOOLS.parent / "xousim", self.top / "xousim")
-        (self.top / "crates.txt").write_text("base:\nxousim: base\n")
-        self.write(".git/index", 100)
-        for name in ("crates/base/src/lib.rt", "crates/xousim/src/main.rt", "crates/xousim/src/tests/examples.rt"):
-            self.write(name, 100)
-        self.command("crates/xousim/out/xousim", 'echo "played $*"', self.top, 200)
-        self.command("rt", "echo 'crate base: proved'; echo 'called rt' >&2; exit 2", self.commands)
-        self.looks = pathlib.Path(folder, "looks")
-        self.command("find", f'echo look >>{self.looks}; exec {shutil.which("find")} "$@"', self.commands)
-
-    def write(self, name, time, text=""):
-        path = self.top / name
-        path.parent.mkdir(parents=True, exist_ok=True)
-        path.write_text(text)
-        os.utime(path, (time, time))
-
-    def command(self, name, body, top, time=None):
-        path = top / name
-        path.parent.mkdir(parents=True, exist_ok=True)
-        path.write_text(f"#!/bin/sh\n{body}\n")
-        path.chmod(0o755)
-        if time is not None:
-            os.utime(path, (time, time))
-
-    def start(self, program=None, path=None):
-        """The status, what was written, and what was said or done besides."""
-        self.looks.write_text("")
-        path = path or f"{self.commands}:{os.environ['PATH']}"
-        words = [program or self.top / "xousim", "check", "an image"]
-        run = subprocess.run(words, env={"PATH": path}, capture_output=True, text=True, check=False)
-        return run.returncode, run.stdout, run.stderr + self.looks.read_text()
-
-
-PLAYED = (0, "played check an image\n", "")
-LOOKED = (0, "played check an image\n", "look\n")
-
-
-def checks_of_start(folder):
-    tree = Checkout(folder)
-    yield tree.start() == LOOKED, "the first start looks at the sources"
-    yield tree.start() == PLAYED, "the next start looks at nothing"
-    link = pathlib.Path(folder, "link")
-    link.symlink_to(tree.top / "xousim")
-    yield tree.start(link) == PLAYED, "a start by a symbolic link"
-    far = 2**31 - 9
-    tree.write("crates/xousim/src/tests/examples.rt", far)
-    tree.write(".git/index", far)
-    yield tree.start() == LOOKED, "a newer test isn't proved by a start"
-    (tree.top / "crates/xousim/out/xousim").chmod(0o644)
-    yield tree.start() == LOOKED, "a program without the right to be executed"
-    tree.write("crates/base/src/lib.rt", far)
-    status, out, said = tree.start()
-    yield (status, out) == (0, PLAYED[1]) and "xousim: 1 of 2: base\n" in said, f"a newer source is proved: {said}"
-    (tree.top / "crates/xousim/out/xousim").unlink()
-    bare = pathlib.Path(folder, "bare")
-    bare.mkdir()
-    for name in ("sh", "find", "head", "dirname"):
-        (bare / name).symlink_to(shutil.which(name))
-    status, _, said = tree.start(path=str(bare))
-    yield status == 127 and "command not found: rt (Rattle kit). See README.md" in said, "the command rt is missing"
+    done = unittest.TestResult()
+    unittest.defaultTestLoader.loadTestsFromModule(test_launcher).run(done)
+    yield done.testsRun > 0 and done.wasSuccessful(), f"./xousim: {[text for _, text in done.failures + done.errors]}"
 
 
 def checks_of_copies():
@@ -138,4 +77,4 @@ def checks_of_same_edits(wrong_edits, crate):
 def checks(_program, folder):
     yield from checks_of_copies()
     yield from checks_of_edits(folder)
-    yield from checks_of_start(folder)
+    yield from checks_of_start()
