@@ -17,7 +17,8 @@ import measure
 
 sys.path.insert(0, str(measure.TOP / "tools"))
 
-from xous_image.image import PAGE, RAM_START, WRITABLE, ZERO_FILLED, EXECUTABLE, tag  # noqa: E402: behind the path
+from xous.images.layout import EXECUTABLE, RAM_START, WRITABLE, ZERO_FILLED, tag  # noqa: E402: behind the path
+from xous.machine import PAGE  # noqa: E402
 
 STEPS = 10_000_000
 EVENTS = 1_000_000

@@ -1,1 +1,1 @@
-"""The tests that tools/test runs: each module has `checks`, which gives whether a thing holds, and its name."""
+"""The tests of the tools, and of the program where it is given; tools/test runs them."""

@@ -2,7 +2,7 @@
 
 import struct
 
-from xous_image import image
+from xous.images import layout as image
 
 RAM = 1 << 20
 CODE = struct.pack("<I", 0x0000006F)  # a jump to itself

@@ -1,1 +1,1 @@
-"""What the tools share: states as bytes, and runs of the program. They need python3 alone."""
+"""The tools of this repository. Each concept has a folder: images, programs, states, transcripts, runs, charts and gdb."""

@@ -6,10 +6,13 @@ stands at an address can change on the way (a page comes, or code is written); t
 piece between the changes that are found.
 """
 
+from __future__ import annotations
+
 import struct
 
-from xous.gdb.oracle import first_difference, first_where, last_before
-from xous.state import EXECUTABLE, EXCLUSIVE, PAGE
+from ..machine import PAGE
+from ..states.state import EXCLUSIVE, EXECUTABLE
+from .oracle import first_difference, first_where, last_before
 
 EBREAK = struct.pack("<I", 0x0010_0073)
 CAUSE_EBREAK = 3
@@ -94,11 +97,11 @@ class Breakpoints:
 
     def is_met(self, difference):
         record = difference.record
-        if record is None or record.kind != "fault" or record.words[0] != CAUSE_EBREAK:
+        if record is None or record.what != "fault" or record.words[0] != CAUSE_EBREAK:
             return False
         state = self.run.state_at(difference.step - 1)
-        thread = state.threads.get(record.who)
-        return state.actor() == record.who and thread.pc == record.words[1] and self.stands_at(difference.step - 1)
+        thread = state.threads.get(record.thread)
+        return state.actor() == record.thread and thread.pc == record.words[1] and self.stands_at(difference.step - 1)
 
     def first_change(self, at, until):
         """A step up to `until` in which what stands at a breakpoint becomes something else than at `at`."""

@@ -1,16 +1,17 @@
 """Going forwards and backwards over a run: where it stops, and of which thread gdb is told."""
 
-from xous import telling
-from xous.gdb import points
-from xous.gdb.breakpoints import EBREAK, Breakpoints, code_page
-from xous.gdb.oracle import first_difference
-from xous.gdb.points import Stop
-from xous.gdb.watchpoints import Watchpoints
-from xous.names import CALLS
-from xous.run import Run
-from xous.state import PAGE
+from __future__ import annotations
 
-TERMINATE_PROCESS = 22
+from ..machine import PAGE
+from ..names import TERMINATE, call_name
+from ..runs.run import Run
+from ..states import telling
+from . import points
+from .breakpoints import EBREAK, Breakpoints, code_page
+from .oracle import first_difference
+from .points import Stop
+from .watchpoints import Watchpoints
+
 ENDINGS = rb"^\d+ (?:\d+ gone$|\d+\.\d+ fault )"
 NOWHERE = 0  # an address outside all windows
 ACTS = ("call", "byte", "fault", "end")
@@ -37,34 +38,34 @@ class History:
     def ending_at(self, record):
         """The stop before a fault or a death, which is at the step before; after it where an event killed."""
         done = self.run.transcript.records(record.step)
-        cause = next((other for other in done if other.kind in ACTS), None)
+        cause = next((other for other in done if other.what in ACTS), None)
         if cause is None or cause.pid != record.pid or not self.is_end(cause):
             text = f"process {record.pid} was killed by an event after step {record.step}\n"
             return Stop(record.step, self.actor(record.step), points.SIGKILL, text=text)
         text, signal = self.cause_of(cause)
-        return Stop(record.step - 1, cause.who, signal, text=f"step {record.step} ends process {cause.pid}: {text}\n")
+        return Stop(record.step - 1, cause.thread, signal, text=f"step {record.step} ends process {cause.pid}: {text}\n")
 
     def is_end(self, cause):
         """That step ends its process: by a fault, TerminateProcess, or as its last thread above tid 1 ends."""
-        if cause.kind == "end":
+        if cause.what == "end":
             threads = self.run.state_at(cause.step - 1).threads
-            return [who for who in threads if who[0] == cause.pid and who[1] > 1] == [cause.who]
-        return cause.kind == "fault" or cause.kind == "call" and cause.words[0] == TERMINATE_PROCESS
+            return [who for who in threads if who[0] == cause.pid and who[1] > 1] == [cause.thread]
+        return cause.what == "fault" or cause.what == "call" and cause.words[0] == TERMINATE
 
     @staticmethod
     def cause_of(cause):
-        who = telling.thread_name(cause.who)
-        if cause.kind == "fault":
+        who = telling.thread_name(cause.thread)
+        if cause.what == "fault":
             number, value = cause.words
             return f"fault {number} of {who}, value {value:08x}", points.CAUSES.get(number, points.SIGSEGV)
-        if cause.kind == "call" and cause.words[0] == TERMINATE_PROCESS:
+        if cause.what == "call" and cause.words[0] == TERMINATE:
             return f"TerminateProcess({cause.words[1]:#x}) of {who}", points.SIGTERM
         return f"its last thread, {who}, ends", points.SIGTERM
 
     def call_stop(self, record):
         words = " ".join(f"{word:08x}" for word in record.words)
-        text = f"step {record.step}: {telling.thread_name(record.who)} calls {CALLS.get(record.words[0])} {words}\n"
-        return Stop(record.step - 1, record.who, text=text)
+        text = f"step {record.step}: {telling.thread_name(record.thread)} calls {call_name(record.words[0])} {words}\n"
+        return Stop(record.step - 1, record.thread, text=text)
 
     def patterns(self):
         yield ENDINGS, self.ending_at
@@ -92,7 +93,7 @@ class History:
         if self.told == self.step:
             return None
         records = self.run.transcript.records(self.step + 1)
-        stops = [self.ending_at(record) for record in records if record.kind in ("fault", "gone")]
+        stops = [self.ending_at(record) for record in records if record.what in ("fault", "gone")]
         return next((stop for stop in stops if stop.step == self.step), None)
 
     # Going.

@@ -1,8 +1,17 @@
 """The commands after `monitor`."""
 
-from xous import events, names, telling
-from xous.gdb.points import CallBreak
-from xous.state import MOST_STEPS, READY
+from __future__ import annotations
+
+import os
+
+from .. import names
+from ..errors import Refusal
+from ..files import write_whole
+from ..machine import MOST_STEPS
+from ..runs import events
+from ..states import telling
+from ..states.state import READY
+from .points import CallBreak
 
 HELP = """monitor goto STEP            continue then goes to that step, forwards or backwards
 monitor step                 the step, and who acts next
@@ -50,7 +59,7 @@ class Monitor:
             return HELP
         try:
             return command(*words)
-        except (Mistake, OSError) as mistake:
+        except (Mistake, Refusal) as mistake:
             return f"{mistake}\n"
 
     def goto(self, text):
@@ -81,11 +90,10 @@ class Monitor:
         ) + "".join(f"{text}\n" for text in circles(state))
 
     def events(self, path=None):
-        text = events.spelled(self.history.run.events_until(self.history.step)).decode()
+        data = events.spelled(self.history.run.events_until(self.history.step))
         if path is None:
-            return text
-        with open(path, "w") as file:
-            file.write(text)
+            return data.decode()
+        write_whole(os.path.expanduser(path), data, events.is_event_file, "an event file")
         return f"{path}: the events up to step {self.history.step}\n"
 
     def break_call(self, name, thread=None):
@@ -97,7 +105,7 @@ class Monitor:
         pid = number(pid, 2, 65, "pid") if pid else None
         tid = number(tid, 1, 31, "tid") if tid else None
         self.history.calls.append(CallBreak(called, pid, tid))
-        return f"stops before {names.CALLS.get(called, called)} of {thread or 'any thread'}\n"
+        return f"stops before {names.call_name(called)} of {thread or 'any thread'}\n"
 
     def delete_calls(self):
         self.history.calls.clear()

@@ -4,10 +4,14 @@ question leaves another record than in the true run.
 Up to the first record that differs both runs are one, as long as nobody loads the bytes that were changed.
 """
 
+from __future__ import annotations
+
 from dataclasses import dataclass
 
-from xous.run import Refusal, Run
-from xous.transcript import Record, record_of
+from ..errors import Refusal
+from ..runs.run import Run
+from ..transcripts.decode import Record
+from ..transcripts.stored import record_of
 
 PIECE = 1 << 16
 

@@ -1,5 +1,7 @@
 """Packets of gdb's remote protocol over a pair of file descriptors."""
 
+from __future__ import annotations
+
 import os
 import select
 

@@ -1,5 +1,7 @@
 """Places where a run is to stop, and what is told of a stop."""
 
+from __future__ import annotations
+
 from dataclasses import dataclass
 
 SIGINT, SIGILL, SIGTRAP, SIGKILL, SIGBUS, SIGSEGV, SIGTERM = 2, 4, 5, 9, 10, 11, 15  # in gdb's numbers

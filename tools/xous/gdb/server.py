@@ -1,17 +1,19 @@
 """Answers gdb: each packet that a debugger of recorded runs needs (gdb's manual, "Remote Protocol")."""
 
+from __future__ import annotations
+
 import contextlib
 import os
 import sys
 
-from xous import reach
-from xous.gdb import points, target
-from xous.gdb.history import History
-from xous.gdb.monitor import Monitor
-from xous.gdb.packets import Closed, Interrupted
-from xous.gdb.points import Breakpoint, Stop, Watchpoint
-from xous.run import Refusal
-from xous.state import FIRST_PID
+from ..errors import Refusal
+from ..machine import FIRST_PID
+from ..states import reach
+from . import points, target
+from .history import History
+from .monitor import Monitor
+from .packets import Closed, Interrupted
+from .points import Breakpoint, Stop, Watchpoint
 
 FEATURES = (
     "PacketSize=20000;QStartNoAckMode+;multiprocess+;ReverseStep+;ReverseContinue+;vContSupported+;"

@@ -1,11 +1,13 @@
 """What gdb is told of the machine and its threads, as the texts of the protocol."""
 
+from __future__ import annotations
+
 import os
 import struct
 from xml.sax.saxutils import escape, quoteattr
 
-from xous import telling
-from xous.state import FIRST_PID
+from ..machine import FIRST_PID
+from ..states import telling
 
 REGISTERS = [*telling.NAMES, "pc"]
 PC = REGISTERS.index("pc")

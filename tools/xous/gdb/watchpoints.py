@@ -6,12 +6,15 @@ page with many other stores would cost a run for each; after some of them the wo
 states, which finds a change, and not one that is undone between two states that were looked at.
 """
 
+from __future__ import annotations
+
 import dataclasses
 import itertools
 
-from xous import reach
-from xous.gdb.oracle import first_difference, first_where, last_before
-from xous.state import EXCLUSIVE, LEND, MUTABLE_LEND, PAGE, SHARED, WRITABLE, Orphan
+from ..machine import PAGE
+from ..states import reach
+from ..states.state import EXCLUSIVE, LEND, MUTABLE_LEND, SHARED, WRITABLE, Orphan
+from .oracle import first_difference, first_where, last_before
 
 MOST_TRIES = 12  # stores to other places of the pages that are looked at one by one
 MOST_CALLS = 100  # that are looked at for a page that they bring

@@ -1,0 +1,130 @@
+"""The functions of a file, the words of a check, and tools/try-edits over a small crate where `rt` is there."""
+
+import pathlib
+import subprocess
+
+from edits import checks as crate_checks
+from edits import functions
+
+from .frame import TOOLS, Case
+
+SOURCE = """\
+impl<'a, T: Read> Reader for Lines<'a, T>
+where
+    T: Clone,
+{
+    fn next(&mut self) -> Option<u8>
+        ensures { IfSome result (λ n. n < 10) }
+    {
+        self.bytes.next().map(|n| n % 10)
+    }
+}
+
+fn none() {}
+
+pub(crate) fn first(lines: &Lines<'_, u8>) -> u8 {
+    lines.first
+}
+"""
+FELL = """\
+fn small::a::first: proved
+note: src/a.rt:5:1: it is not proved that what the function ensures holds when it returns (`returns`)
+fn small::a::last: no proof: `search` did not prove `returns`
+proofs/a/middle/Answers.antt:9:5: error: `returns`: c.take has no field result
+fn small::a::middle: not proved
+fn small::a::user: no proof: it calls `small::a::last`, which is not proved
+logic=not-proved
+"""
+UNREAD = "src/a.rt:3:7: error: `size` is not in scope\nlogic=not-proved\n"
+STOPPED = "src/a.rt:3:7: error[unknown-name]: cannot find value `m` in this scope\n"
+
+LIBRARY = """\
+//! Two functions, of which edits are tried.
+
+#![tactic(auto)]
+
+ghost use Rattle.std.specs.Prelude.{◌≡◌, ◌<◌, ◌+◌};
+
+/// The number after this one.
+pub fn next(n: u8) -> u8
+    requires { n < 255 }
+    ensures { result ≡ n + 1 }
+{
+    n + 1
+}
+
+/// Twice the number.
+pub fn twice(n: u8) -> u8
+    requires { n < 100 }
+    ensures { result ≡ n + n }
+{
+    n + n
+}
+"""
+EDITS = {
+    "must-fail/once.edit": ("    n + n", "    n"),
+    "wrong-bodies/same.edit": ("    n + 1", "    1 + n"),
+    "wrong-bodies/unknown.edit": ("    n + n", "    n + m"),
+}
+TOLD = (
+    "tiny/must-fail/once.edit: refused: tiny::twice: returns",
+    "tiny/wrong-bodies/same.edit: NOT REFUSED: tiny::next is still proved",
+    "tiny/wrong-bodies/unknown.edit: BAD: src/lib.rt:20:9: error[unknown-name]",
+    "tiny: 3 edits in 2 checks",
+)
+
+
+def checks_of_functions():
+    found = [*functions.functions_of("src/a/b.rt", SOURCE)]
+    named = [(it.module, it.type, it.trait, it.name, it.opens, it.closes) for it in found]
+    yield named == [(("a", "b"), "Lines", "Reader", "next", 6, 8), (("a", "b"), "", "", "first", 13, 15)], "the functions of a file"
+    symbols = ["small::a::b::LinesReader::next", "small::a::b::fn::LinesReader::next::map", "small::a::b::first", "small::a::b::LinesReader::first"]
+    yield functions.symbols_of(found[0], "small", symbols) == {*symbols[:2]}, "the names of a method and of its closure in a check"
+    yield functions.symbols_of(found[1], "small", symbols) == {symbols[2]}, "the name of a function in a check"
+
+
+def checks_of_words():
+    said = crate_checks.Check(1, FELL)
+    yield said.has_verdict() and said.fell() == {"small::a::last", "small::a::middle"}, "the functions that fell themselves"
+    yield said.reason("small::a::last") == ("small::a::last: returns", False), "the goal of a function that fell"
+    yield said.reason("small::a::middle")[1], "a function that fell for a name that was taken away"
+    yield not crate_checks.Check(1, UNREAD).has_verdict() and not crate_checks.Check(1, STOPPED).has_verdict(), "a check that came to no verdict"
+
+
+def write_small_crate(top):
+    for name, text in {"src/lib.rt": LIBRARY, **{name: f"file: src/lib.rt\nold: {old}\nnew: {new}\n" for name, (old, new) in EDITS.items()}}.items():
+        path = top / "crates/tiny" / name
+        path.parent.mkdir(parents=True, exist_ok=True)
+        path.write_text(text)
+    (top / "crates.txt").write_text("tiny:\n")
+
+
+def checks_of_plans(folder):
+    top = pathlib.Path(folder, "edited-checkout")
+    write_small_crate(top)
+    planned = subprocess.run([TOOLS / "try-edits", "--root", top, "--plan"], capture_output=True, text=True)
+    yield planned.returncode == 0 and planned.stdout.startswith("tiny: 3 edits in 2 checks\n"), "tools/try-edits --plan"
+
+
+def checks_of_tries(folder):
+    command = [TOOLS / "try-edits", "--root", pathlib.Path(folder, "edited-checkout")]
+    ran = subprocess.run(command, capture_output=True, text=True)
+    told = ran.stdout.splitlines()
+    good = len(told) == len(TOLD) + 1 and all(line.startswith(wanted) for line, wanted in zip(told, TOLD))
+    yield ran.returncode == 1 and good, f"tools/try-edits over three edits: {ran.stdout + ran.stderr}"
+    unknown = subprocess.run([*command, "other"], capture_output=True, text=True)
+    yield unknown.returncode == 2 and "other is no crate with edits" in unknown.stderr, "a crate without edits"
+
+
+class Edits(Case):
+    def test_functions(self):
+        self.hold(checks_of_functions())
+
+    def test_words(self):
+        self.hold(checks_of_words())
+
+    def test_tries(self):
+        self.hold(checks_of_plans(self.folder))
+        if not crate_checks.kit():
+            self.skipTest("the command rt is missing: the Rattle kit")
+        self.hold(checks_of_tries(self.folder))

@@ -1,0 +1,168 @@
+"""Every order of an image's threads, searched slowly, and compared with examples/orders/found, as the program xousorders is."""
+
+import pathlib
+import subprocess
+import tempfile
+
+from xous.commands.test_orders import asked_of, parser, search, write_orders
+from xous.machine import MOST_STEPS
+from xous.runs import events, found, orders
+from xous.transcripts import decode
+
+from .frame import EXAMPLES, GIVEN, Case, need_program, need_searcher
+
+FOUND = EXAMPLES / "orders" / "found"
+FEW = 30  # states of a search that doesn't take long
+
+
+# What is stored.
+
+
+def stored():
+    """The searches of the stored file: their words and lines."""
+    blocks = [block.splitlines() for block in FOUND.read_text().split("\n\n")]
+    lines = [[line for line in block if not line.startswith("#")] for block in blocks]
+    return [(block[0], block[1:]) for block in lines if block]
+
+
+# A search's lines, and some of other form: which line is exchanged for what.
+
+SAMPLE = """states 26 slices 38 whole
+ending 1: console 4f6b0a; 2 waits: 2.2 receives at fill; 3 gone; 1 node; 12 slices
+ending 2: console empty; 2 gone; 3 gone; 2 nodes; 1 slice
+2 endings"""
+READ = found.Found(
+    26,
+    38,
+    True,
+    (
+        found.Ending("console 4f6b0a; 2 waits: 2.2 receives at fill; 3 gone", 1, 12),
+        found.Ending("console empty; 2 gone; 3 gone", 2, 1),
+    ),
+)
+OTHER_FORMS = {
+    "no word for how it ended": ("38 whole", "38"),
+    "another word for how it ended": ("whole", "done"),
+    "a number that is left out": ("states 26", "states"),
+    "an ending of another number": ("ending 2", "ending 3"),
+    "an ending that is left out": ("ending 2: console empty; 2 gone; 3 gone; 2 nodes; 1 slice\n", ""),
+    "an ending that is told twice": ("console empty; 2 gone", "console 4f6b0a; 2 waits: 2.2 receives at fill"),
+    "another count of endings": ("2 endings", "3 endings"),
+    "one of several": ("2 nodes", "2 node"),
+    "several of one": ("1 slice\n", "1 slices\n"),
+    "no order": ("; 12 slices", ""),
+    "a console that is left out": ("console empty; ", ""),
+}
+# What isn't the same, and in how many things it differs.
+OTHER_SEARCHES = {
+    "a state less": (("states 26", "states 25"), 1),
+    "a slice more": (("slices 38", "slices 39"), 1),
+    "a search that was cut": (("whole", "cut"), 1),
+    "another ending": (("4f6b0a", "4f6b"), 2),
+    "a node more of an ending": (("1 node;", "2 nodes;"), 1),
+    "an order that isn't the shortest": (("12 slices", "13 slices"), 1),
+}
+
+
+def is_read(text):
+    try:
+        return found.read(text.splitlines()) is not None
+    except ValueError:
+        return False
+
+
+def checks_of_reading():
+    """Lines of searches are read as what they tell, and lines of other forms aren't."""
+    one = found.read(SAMPLE.splitlines())
+    yield one == READ, f"a search's lines are read: {one}"
+    yield [ending.console for ending in one.endings] == [b"Ok\n", b""], "the console of an ending"
+    yield [ending.gone for ending in one.endings] == [{3}, {2, 3}], "who is gone in an ending"
+    for name, (old, new) in OTHER_FORMS.items():
+        yield SAMPLE.count(old) == 1 and not is_read(SAMPLE.replace(old, new)), f"a search's lines with {name}"
+    for name, ((old, new), count) in OTHER_SEARCHES.items():
+        told = list(found.differences(one, found.read(SAMPLE.replace(old, new).splitlines())))
+        yield SAMPLE.count(old) == 1 and len(told) == count, f"a search with {name}: {told}"
+    turned = found.Found(26, 38, True, one.endings[::-1])
+    yield list(found.differences(one, turned)) == [], "the order in which endings are told doesn't matter"
+    for words, lines in stored():
+        yield found.read(lines).lines() == lines, f"the stored lines of {words}"
+
+
+# What a file of events plays.
+
+
+def seen_of_trace(program, image, path):
+    """The console's bytes and the processes that are gone, by the transcript."""
+    words = [program, "trace", image, path, str(MOST_STEPS)]
+    told = subprocess.run(words, capture_output=True, text=True, check=True).stdout
+    records = [decode.record_of(line) for line in told.splitlines()]
+    console = bytes(record.words[0] for record in records if record.what == decode.BYTE)
+    return console, {record.pid for record in records if record.what == decode.GONE}
+
+
+def checks_of_played(program, image, ending, path, name):
+    """An event file leads to what was seen of the ending, by the transcript and by the last state, and has its slices."""
+    yield seen_of_trace(program, image, path) == (ending.console, ending.gone), f"{name}: its transcript"
+    played, bad = events.read(path.read_bytes())
+    with tempfile.TemporaryDirectory() as folder:
+        again = orders.Search(program, str(image), orders.Asked(), folder)
+        seen = orders.seen(again.visited(again.played(played)))
+    yield bad is None and seen == ending.seen, f"{name}: its last state is {seen}"
+
+
+def checks_of_orders(program, image, told, folder, words):
+    """The event files of the endings, each with so many slices as is told."""
+    for number, ending in enumerate(told.endings, 1):
+        path = pathlib.Path(folder, f"ending-{number}.events")
+        name = f"orders of {words}: the events of ending {number}"
+        picks = sum(event.name == "pick" for event in events.read(path.read_bytes())[0])
+        yield picks == ending.slices, f"{name}: {picks} slices"
+        yield from checks_of_played(program, image, ending, path, name)
+
+
+# The searches.
+
+
+def given_of(program, words):
+    image, *options = words.split()
+    return EXAMPLES / image, parser().parse_args([program, "--search", image, *options]), options
+
+
+def checks_of_search(program, is_long):
+    for words, lines in stored():
+        wanted = found.read(lines)
+        if wanted.states > FEW and not is_long:
+            continue
+        image, given, _ = given_of(program, words)
+        told, endings = search(program, str(image), asked_of(given))
+        yield told == wanted, f"orders of {words}: {list(found.differences(wanted, told)) or 'endings in another order'}"
+        with tempfile.TemporaryDirectory() as folder:
+            write_orders(folder, endings)
+            yield from checks_of_orders(program, image, told, folder, words)
+
+
+def checks_of_searcher(program, searcher):
+    """The program xousorders tells the same as is stored, and the event files that it writes lead to the endings."""
+    for words, lines in stored():
+        image, _, options = given_of(program, words)
+        with tempfile.TemporaryDirectory() as folder:
+            command = [searcher, str(image), *options, "--write", folder]
+            ran = subprocess.run(command, capture_output=True, text=True, check=False)
+            if ran.returncode or not is_read(ran.stdout):
+                yield False, f"xousorders {words}: status {ran.returncode}: {ran.stdout[-200:]}{ran.stderr}"
+                continue
+            told = found.read(ran.stdout.splitlines())
+            differing = list(found.differences(found.read(lines), told))
+            yield not differing, f"xousorders {words}: {differing}"
+            yield from checks_of_orders(program, image, told, folder, f"xousorders {words}")
+
+
+class Orders(Case):
+    def test_reading(self):
+        self.hold(checks_of_reading())
+
+    def test_searches(self):
+        self.hold(checks_of_search(need_program(), GIVEN.is_long))
+
+    def test_program(self):
+        self.hold(checks_of_searcher(need_program(), need_searcher()))

@@ -1,0 +1,1 @@
+"""Transcripts as charts: SVG, a page for a browser, or a trace for Perfetto."""

@@ -1,0 +1,170 @@
+"""How each tool begins and ends: with a status and, if something is wrong, one sentence; never with a traceback.
+
+`start(name)` runs `xous.commands.NAME`, whose `main` takes the words and returns the status.
+"""
+
+from __future__ import annotations
+
+import argparse
+import contextlib
+import errno
+import importlib
+import os
+import pathlib
+import signal
+import sys
+import traceback
+from typing import NoReturn
+
+from .errors import Fault, Refusal
+from .files import why
+
+ROOT = pathlib.Path(__file__).resolve().parents[2]
+DONE, REFUSED, USAGE, WRITE_FAULT, NO_MEMORY, INTERNAL, INTERRUPTED = 0, 1, 2, 4, 9, 70, 130
+STATUSES = """statuses:
+  0   done
+  1   refused, or an input has a fault; the sentence says which
+  2   the words make no sense
+  4   the output is closed, or its disk is full
+  9   memory has run out
+  130 interrupted by Control-C"""
+OUTPUT_ERRORS = (errno.EPIPE, errno.ENOSPC, errno.EFBIG, errno.EDQUOT, errno.EBADF, errno.EIO)
+
+
+def version() -> str:
+    """The version of the repository."""
+    try:
+        return (ROOT / "VERSION").read_text(encoding="ascii").strip()
+    except OSError as error:
+        raise Refusal(f"{ROOT / 'VERSION'}: {why(error)}") from None
+
+
+class ShowVersion(argparse.Action):
+    """Prints the version, and ends."""
+
+    def __init__(self, option_strings, dest, **given):
+        super().__init__(option_strings, dest, nargs=0, **given)
+
+    def __call__(self, parser, namespace, values, option_string=None):
+        print(f"{parser.prog} {version()}")
+        parser.exit()
+
+
+class Parser(argparse.ArgumentParser):
+    """The words of a tool. Its help has the statuses and an example; no option is taken by a part of its name."""
+
+    def __init__(self, prog: str, usage: str, description: str, example: str, notes: str = "", statuses: str = STATUSES):
+        parts = [part for part in (statuses, notes, f"example:\n  {example}") if part]
+        super().__init__(
+            prog=prog,
+            usage=usage,
+            description=description,
+            epilog="\n\n".join(parts),
+            formatter_class=argparse.RawDescriptionHelpFormatter,
+            allow_abbrev=False,
+        )
+        self.add_argument("--version", action=ShowVersion, help="print the version, and end")
+
+    def error(self, message: str) -> NoReturn:
+        raise Refusal(f"{message}; see {self.prog} --help", USAGE)
+
+
+def decimal(text: str, what: str, least: int = 0, most: int | None = None) -> int:
+    """A number of decimal digits."""
+    if not (text.isascii() and text.isdigit() and len(text) <= 20 and least <= int(text) and (most is None or int(text) <= most)):
+        limits = f"{least} or more" if most is None else f"{least} to {most}"
+        raise argparse.ArgumentTypeError(f"{text} is no {what}; give a number, {limits}")
+    return int(text)
+
+
+def say(name: str, text: object) -> None:
+    """Writes a sentence to standard error, if that is there."""
+    with contextlib.suppress(OSError, ValueError):
+        print(f"{name}: {text}", file=sys.stderr, flush=True)
+
+
+def open_streams() -> bool:
+    """Makes what is closed of the three streams lead nowhere, so that no file takes its number. Whether output is open."""
+    missing = []
+    for number in range(3):
+        try:
+            os.fstat(number)
+        except OSError:
+            os.open(os.devnull, os.O_RDWR)  # takes the least free number, which is this one
+            missing.append(number)
+    if sys.stdin is None:
+        sys.stdin = open(0, encoding="utf-8", errors="surrogateescape")
+    if sys.stdout is None:
+        sys.stdout = open(1, "w", encoding="utf-8")
+    if sys.stderr is None:
+        sys.stderr = open(2, "w", encoding="utf-8")
+    for stream in (sys.stdout, sys.stderr):
+        stream.reconfigure(errors="backslashreplace")  # type: ignore[union-attr]
+    return 1 not in missing
+
+
+def lose_output() -> None:
+    """What is still to be written is dropped: the stream's end would fail again."""
+    with contextlib.suppress(OSError):
+        os.dup2(os.open(os.devnull, os.O_WRONLY), 1)
+
+
+def output_text(error: OSError) -> str:
+    if isinstance(error, BrokenPipeError):
+        return "standard output: its reader has gone; the rest isn't written"
+    return f"standard output: {why(error)}"
+
+
+def ended(name: str, error: BaseException) -> int:
+    """The status for what ended a tool, after a sentence about it."""
+    if isinstance(error, SystemExit):
+        return error.code if isinstance(error.code, int) else DONE
+    if isinstance(error, Refusal):
+        say(name, error)
+        return error.status
+    if isinstance(error, Fault):
+        say(name, error)
+        return REFUSED
+    if isinstance(error, KeyboardInterrupt):
+        say(name, "interrupted")
+        return INTERRUPTED
+    if isinstance(error, MemoryError):
+        say(name, "memory has run out; give a smaller file, or more memory")
+        return NO_MEMORY
+    if isinstance(error, OSError):
+        if error.filename is None and error.errno in OUTPUT_ERRORS:
+            lose_output()
+            say(name, output_text(error))
+            return WRITE_FAULT
+        place = "" if error.filename is None else f"{os.fsdecode(error.filename)}: "
+        say(name, f"{place}{why(error)}")
+        return REFUSED
+    if os.environ.get("XOUS_DEBUG"):
+        traceback.print_exception(error)
+    say(name, f"a mistake of the tool itself: {type(error).__name__}: {error}; XOUS_DEBUG=1 shows where")
+    return INTERNAL
+
+
+def run(name: str, module: str, words: list[str]) -> int:
+    """The status of a tool with these words."""
+    if signal.getsignal(signal.SIGINT) is signal.SIG_DFL:
+        signal.signal(signal.SIGINT, signal.default_int_handler)
+    status = DONE
+    try:
+        if not open_streams():
+            raise Refusal("standard output is closed", WRITE_FAULT)
+        status = importlib.import_module(module).main(words)
+    except BaseException as error:  # pylint: disable=broad-exception-caught
+        status = ended(name, error)
+    try:
+        sys.stdout.flush()
+    except OSError as error:
+        return ended(name, error) or WRITE_FAULT
+    return status
+
+
+def start(name: str, module: str) -> NoReturn:
+    """Runs a tool with the words of the command line, and ends with its status."""
+    status = run(name, f"xous.commands.{module}", sys.argv[1:])
+    lose_output() if status == WRITE_FAULT else None
+    sys.exit(status)

@@ -1,0 +1,1 @@
+"""Boot images: the format, reading, and making one of programs."""

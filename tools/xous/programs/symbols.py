@@ -1,0 +1,89 @@
+"""Programs with their symbols: in which function and line an address is, and where a symbol stands.
+
+A call of the kit is an inline function, so the address of its ECALL is a line of a header. What a reader asks for
+is the line of the program that called it: the first one, from the inside, that isn't of a header.
+"""
+
+from __future__ import annotations
+
+import io
+from bisect import bisect_right
+from collections.abc import Iterator
+
+from ..errors import Refusal
+from ..files import MOST_ELF_BYTES, read_whole
+from ..images.layout import EXECUTABLE, Process
+from ..images.named import plain
+from ..images.reading import bytes_of_sections
+from .elf import elf_library, read_program, symbol_rows
+from .lines import Lines, Spot
+
+NO_TYPE, OBJECT, FUNCTION = 0, 1, 2  # kinds of symbols
+UNDEFINED = 0
+
+
+def symbols_of(elf) -> Iterator[tuple[int, int, str]]:
+    """The address, size and name of each function, object and label."""
+    for name, value, size, kind, section in symbol_rows(elf):
+        if name and kind in (NO_TYPE, OBJECT, FUNCTION) and section != UNDEFINED and not name.startswith(("$", ".")):
+            yield value, size, name
+
+
+class Program:
+    """A program of one process."""
+
+    def __init__(self, path: str):
+        elf_file, errors = elf_library()
+        self.path = path
+        try:
+            elf = elf_file(io.BytesIO(read_whole(path, MOST_ELF_BYTES)))
+            if elf.elfclass != 32 or not elf.little_endian:
+                raise Refusal(f"{path}: not a 32-bit RISC-V file; give the program that is in the image")
+            self.symbols = sorted(symbols_of(elf))
+            has_lines = elf.get_section_by_name(".debug_line") is not None
+        except errors as fault:
+            raise Refusal(f"{path}: a broken ELF file ({fault or 'it is too short'}); give a linked program") from None
+        self.starts = [start for start, _, _ in self.symbols]
+        self.lines = Lines(path) if has_lines else None
+
+    def close(self) -> None:
+        if self.lines is not None:
+            self.lines.close()
+
+    def is_of(self, process: Process, image: bytes) -> bool:
+        """Whether a process that was read of the bytes of an image has this program's code."""
+        code = [(each.address, each.data) for each in read_program(self.path).sections if each.flags & EXECUTABLE]
+        theirs = [(each.address, data) for each, data in bytes_of_sections(process, image) if each.flags & EXECUTABLE]
+        return code == theirs
+
+    def symbol(self, name: str) -> tuple[int, int] | None:
+        """The address and size of a symbol."""
+        return next(((start, size) for start, size, other in self.symbols if other == name), None)
+
+    def symbol_at(self, address: int) -> str:
+        """The symbol that an address is in, with how far in it as `store+4`, or nothing."""
+        place = bisect_right(self.starts, address) - 1
+        if place < 0:
+            return ""
+        start, size, name = self.symbols[place]
+        if address == start:
+            return plain(name)
+        # A label of assembly has no size, and reaches to the next symbol.
+        end = start + size if size else self.starts[place + 1 : place + 2][0] if place + 1 < len(self.starts) else start
+        return f"{plain(name)}+{address - start:x}" if address < end else ""
+
+    def frames(self, address: int) -> list[Spot]:
+        """The spots of an address from the inside: its own, and those of the calls that were inlined around it."""
+        return self.lines.frames(address) if self.lines is not None else []
+
+    def spot(self, address: int) -> Spot:
+        """Where in the source an instruction is, as far as the program has that."""
+        own = next((spot for spot in self.frames(address) if not spot.file.endswith(".h")), None)
+        return own or Spot(self.symbol_at(address) or f"{address:08x}")
+
+    def text(self, address: int) -> str:
+        """Symbol and line of an address as `<store+4 client.c:6>`, or nothing."""
+        frames = self.frames(address)
+        line = f"{plain(frames[0].file)}:{frames[0].line}" if frames else ""
+        inside = " ".join(part for part in (self.symbol_at(address), line) if part)
+        return f"<{inside}>" if inside else ""

@@ -1,0 +1,1 @@
+"""Runs of the program: event files, states at any step, and searches of orders."""

@@ -1,0 +1,206 @@
+"""Every order of the threads of an image, searched breadth first over runs of the program. It is slow, and proves nothing.
+
+A *slice* of a ready thread is `pick` of it and its steps up to the first that leaves a record, at most so many as the quantum. A
+*node* is a state without its cursor and, where steps don't count, without its count of steps, with the console's bytes so far and the
+events that may still come. An *ending* is a node in which nobody is ready, or where steps count and are at their bound.
+
+Steps count in all nodes or in none: two orders that lead to one node may have done other numbers of steps, and who claims the
+timer's interrupt there can read them. So a search is made anew, with a bound of steps, where it comes to a state in which somebody has.
+
+A state comes by `suspend` from the image's start, and where a slice ends is read off `resume` from that state.
+"""
+
+from __future__ import annotations
+
+import dataclasses
+import hashlib
+import itertools
+import os
+import subprocess
+from concurrent.futures import ThreadPoolExecutor
+from dataclasses import dataclass, field
+
+from ..errors import Refusal
+from ..machine import FIRST_PID, MOST_STEPS, TIMER_INTERRUPT
+from ..states import state
+from ..transcripts import decode
+from . import events, found
+
+WORKERS = 3
+
+
+@dataclass
+class Asked:
+    """What is searched: the quantum, the bound of steps where these count, how many nodes at most, events that may come once, and
+    the events that are played first."""
+
+    quantum: int = 1000
+    steps: int = 100_000
+    states: int = 100_000
+    once: tuple = ()
+    first: list = field(default_factory=list)
+
+
+@dataclass
+class Node:
+    path: list  # events from the image's start
+    slices: int
+    console: bytes
+    once: tuple
+    machine: state.State = None
+    file: str = ""  # of the machine's bytes, as long as the node isn't expanded
+
+
+class TimerClaimed(Exception):
+    """Somebody has claimed the timer's interrupt where steps don't count."""
+
+
+def has_timer(machine):
+    return any(claim.number == TIMER_INTERRUPT for claim in machine.claims)
+
+
+def key_of(node, counts):
+    """What tells this node from others, where steps count or don't."""
+    machine = node.machine
+    kept = dataclasses.replace(machine, cursor=(2, 2), steps=machine.steps if counts else 0)
+    digest = hashlib.sha256(kept.to_bytes())
+    return digest.digest(), node.console, tuple(event.text() for event in node.once)
+
+
+class Search:
+    def __init__(self, program, image, asked, folder, counts=False):
+        self.program, self.image, self.asked, self.folder, self.counts = program, image, asked, folder, counts
+        self.files, self.slices = itertools.count(), 0
+        self.nodes, self.endings = {}, []
+        self.whole = True
+
+    # Runs.
+
+    def run(self, command, subject, played, limit, may_be_empty=False):
+        path = os.path.join(self.folder, f"{next(self.files)}.events")
+        with open(path, "wb") as file:
+            file.write(events.spelled(played))
+        words = [self.program, command, subject, path, str(limit)]
+        ran = subprocess.run(words, stdout=subprocess.PIPE, stderr=subprocess.PIPE, check=False)
+        os.unlink(path)
+        if ran.returncode not in (0, 7) or not (ran.stdout or may_be_empty):
+            raise Refusal(f"xousim {command}: {ran.stderr.decode().strip()}")
+        return ran.stdout
+
+    def played(self, path, once=()):
+        """The node behind these events from the image's start, without its state."""
+        console = self.run("run", self.image, path, MOST_STEPS, may_be_empty=True)
+        return Node(path, 0, console, once)
+
+    def visited(self, node):
+        """The node with its state, which stands in a file, too."""
+        data = self.run("suspend", self.image, node.path, MOST_STEPS)
+        node.machine = state.read(data)
+        node.file = os.path.join(self.folder, f"{hashlib.sha256(data + node.console).hexdigest()}.state")
+        with open(node.file, "wb") as file:
+            file.write(data)
+        return node
+
+    def bound(self):
+        return self.asked.steps if self.counts else MOST_STEPS
+
+    def is_ending(self, node):
+        return not node.machine.ready() or node.machine.steps >= self.bound()
+
+    def slice_of(self, node, who):
+        """The node behind a slice of this thread."""
+        machine = node.machine
+        most = min(self.asked.quantum, self.bound() - machine.steps)
+        pick = events.Event(0, "pick", who)
+        told = self.run("resume", node.file, [pick, events.tick(most)], MOST_STEPS).decode().splitlines()
+        records = [decode.record_of(line) for line in told]
+        last = records[0].step if len(records) > 1 else min(records[-1].step, machine.steps + most)
+        written = bytes(record.words[0] for record in records if record.what == decode.BYTE and record.step == last)
+        path = [*node.path, pick, events.tick(last - machine.steps)]
+        return self.visited(Node(path, node.slices + 1, node.console + written, node.once))
+
+    def after_event(self, node, event):
+        rest = tuple(other for other in node.once if other is not event)
+        return self.visited(Node([*node.path, event], node.slices, node.console, rest))
+
+    # The search.
+
+    def meet(self, node):
+        """Whether this node is a new one."""
+        if has_timer(node.machine) and not self.counts:
+            raise TimerClaimed
+        key = key_of(node, self.counts)
+        if key in self.nodes or len(self.nodes) >= self.asked.states:
+            self.whole = self.whole and key in self.nodes
+            if os.path.exists(node.file) and key not in self.nodes:
+                os.unlink(node.file)
+            return False
+        self.nodes[key] = node
+        if self.is_ending(node):
+            self.endings.append(node)
+        return True
+
+    def successors(self, pool, node):
+        """The nodes behind each slice and each event, in order."""
+        ready = [] if self.is_ending(node) else node.machine.ready()
+        self.slices += len(ready)
+        jobs = [pool.submit(self.slice_of, node, who) for who in ready]
+        return jobs + [pool.submit(self.after_event, node, event) for event in node.once]
+
+    def search(self):
+        """This search, or where it comes to need one that counts steps, that one."""
+        try:
+            return self.search_nodes()
+        except TimerClaimed:
+            return Search(self.program, self.image, self.asked, self.folder, counts=True).search_nodes()
+
+    def search_nodes(self):
+        first = self.visited(self.played(list(self.asked.first), self.asked.once))
+        with ThreadPoolExecutor(WORKERS) as pool:
+            level = [first] if self.meet(first) else []
+            while level:
+                jobs = [(node, self.successors(pool, node)) for node in level]
+                level = []
+                for node, coming in jobs:
+                    met = [job.result() for job in coming]
+                    level += [other for other in met if self.meet(other)]
+                    node.machine = None if node not in self.endings else node.machine
+        return self
+
+    # What is told.
+
+    def told(self):
+        """What was found, where endings that look alike are one, and of each a node with the shortest order."""
+        alike = {}
+        for node in self.endings:
+            alike.setdefault(seen(node), []).append(node)
+        endings = tuple(found.Ending(text, len(nodes), nodes[0].slices) for text, nodes in alike.items())
+        return found.Found(len(self.nodes), self.slices, self.whole, endings), [nodes[0] for nodes in alike.values()]
+
+
+def seen(node):
+    """What is seen of an ending: the console, who lives, and for what each thread waits."""
+    machine = node.machine
+    parts = [f"console {node.console.hex() or 'empty'}"]
+    for place, process in enumerate(machine.processes):
+        pid = place + FIRST_PID
+        waits = [wait_of(machine, thread) for who, thread in sorted(machine.threads.items()) if who[0] == pid and is_busy(thread)]
+        parts.append(f"{pid} waits: {', '.join(waits)}" if process.alive else f"{pid} gone")
+    return "; ".join(parts)
+
+
+def is_busy(thread):
+    """It isn't an interrupt thread that runs no handler."""
+    return thread.state != state.IDLE
+
+
+def wait_of(machine, thread):
+    name = f"{thread.pid}.{thread.tid}"
+    if thread.state == state.RECEIVING:
+        return f"{name} receives at {machine.server(thread.waits_for).name}"
+    if thread.state == state.WAITING:
+        server, message, held = machine.find_message(thread.waits_for)
+        return f"{name} waits for message {message.number} {'held' if held else 'queued'} at {server.name}"
+    if thread.state == state.JOINING:
+        return f"{name} joins {thread.pid}.{thread.waits_for}"
+    return f"{name} ready"

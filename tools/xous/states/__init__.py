@@ -1,0 +1,1 @@
+"""States of the machine as bytes, and what a process sees of one."""

@@ -1,0 +1,1 @@
+"""Transcripts: their lines as records, what follows from them, and their laws."""

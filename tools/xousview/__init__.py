@@ -1,1 +1,0 @@
-"""Reading, following and drawing transcripts of xousim, for the tool xous-view."""
