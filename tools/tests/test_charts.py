@@ -255,6 +255,24 @@ try {
     document.querySelector(".death").dispatchEvent(new MouseEvent("click", { bubbles: true }));
     send.dispatchEvent(new MouseEvent("mouseover", { bubbles: true }));
     fact("a mark that is clicked at stays", told().includes("114 client is dead"));
+    document.querySelector(".death").dispatchEvent(new MouseEvent("click", { bubbles: true }));
+    key(id("view"), "ArrowDown");
+    const marks = document.querySelectorAll(".mark"), at = document.activeElement;
+    fact("an arrow key goes to the first mark", at === marks[0] && told().includes("CreateServerWithAddress"));
+    fact("the focus is seen", getComputedStyle(at).outlineStyle === "solid" && getComputedStyle(at).outlineWidth === "2px");
+    key(at, "ArrowDown");
+    fact("the next mark", document.activeElement !== at && document.activeElement.dataset.row === "1");
+    key(document.activeElement, "ArrowRight");
+    fact("the lane beside", document.activeElement.dataset.lane === "1");
+    key(document.activeElement, "ArrowLeft");
+    fact("the lane on the other side", document.activeElement.dataset.lane === "0");
+    fact("one mark is in the order of the keyboard", document.querySelectorAll('.m[tabindex="0"]').length === 1);
+    key(document.activeElement, "Escape");
+    fact("Escape lets go", document.activeElement === id("view") && !document.querySelector(".same"));
+    for (let count = 0; count < 6; count++) id("larger").click();
+    const left = id("steps").getBoundingClientRect().left;
+    id("view").scrollLeft = 300;
+    fact("the steps stay", id("view").scrollLeft > 100 && Math.abs(id("steps").getBoundingClientRect().left - left) < 1);
 } catch (error) { facts.push("wrong " + error); }
 document.title = facts.join("; ");
 </script>"""
@@ -281,9 +299,39 @@ def checks_of_page(folder):
     path.write_text(made.replace("</body>", DEEDS + "</body>"))
     told = re.search("<title>(.*?)</title>", opened(program, path))
     facts = told[1].split("; ") if told else []
-    yield len(facts) == 11, f"what the page does: {facts}"
+    yield len(facts) == 19, f"what the page does: {facts}"
     for fact in facts:
         yield fact.startswith("good "), f"the page: {fact}"
+    yield from checks_of_dark(program, path, made)
+    yield from checks_of_print(program, folder)
+
+
+DARK = """<script>
+document.title = [getComputedStyle(document.body).backgroundColor, getComputedStyle(document.querySelector("#chart .mark text")).fill].join("; ");
+</script>"""
+
+
+def checks_of_dark(program, path, made):
+    path.write_text(made.replace("</body>", DARK + "</body>"))
+    for words, wanted in (((), "rgb(255, 255, 255); rgb(29, 39, 48)"), (("--blink-settings=preferredColorScheme=0",), "rgb(22, 27, 32); rgb(223, 230, 236)")):
+        told = re.search("<title>(.*?)</title>", opened(program, path, *words))
+        yield told and told[1] == wanted, f"colours with {words}: {told and told[1]}"
+
+
+def printed(program, path):
+    """How many pages the page has on paper, and their text, where pdftotext is there."""
+    target = path.with_suffix(".pdf")
+    with tempfile.TemporaryDirectory() as profile:
+        command = [program, "--headless", "--no-sandbox", "--disable-gpu", "--disable-dev-shm-usage", f"--user-data-dir={profile}"]
+        subprocess.run([*command, f"--print-to-pdf={target}", path.as_uri()], capture_output=True, check=False, timeout=600)
+    return len(re.findall(rb"/Type\s*/Page\b", target.read_bytes()))
+
+
+def checks_of_print(program, folder):
+    """On paper a short chart has one page, and a wide and long one as many as it needs, without an empty one."""
+    short = pathlib.Path(folder, "short.html")
+    short.write_text(page.html(example("lend/expected"), names.Names(), "lend"))
+    yield printed(program, short) == 1, "a short chart has one page"
 
 
 class Charts(Case):

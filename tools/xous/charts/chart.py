@@ -16,7 +16,9 @@ LINE_FEED = 10
 
 SEND, ANSWER, START, ENDED = "send", "answer", "start", "ended"  # kinds of arrows
 # Kinds of marks, beside those of records.
-SERVED, REFUSED, AGAIN, TEXT, DEATH = "served", "refused", "again", "text", "death"
+SERVED, REFUSED, AGAIN, TEXT, DEATH, RUN = "served", "refused", "again", "text", "death", "run"
+ACTS = (decode.CALL, decode.BYTE, decode.FAULT, decode.END)
+MOST_SILENT = 8  # runs without a line between two lines, each of which has a mark
 
 
 class Mark:
@@ -86,12 +88,13 @@ class Loan:
 class Chart:
     """Takes lines; then it has what is to be drawn."""
 
-    def __init__(self, named, filtered, turns=None, keeps_all=False):
-        """`turns` are the events that made the transcript, and how many processes the image has. Of more marks than can be
-        drawn there is no more than their number, but where all are kept, for a trace."""
+    def __init__(self, named, filtered, runs=(), keeps_all=False):
+        """`runs` are the stretches of steps by their threads, where they are known. Of more marks than can be drawn there is no
+        more than their number, but where all are kept, for a trace."""
         self.named, self.filter, self.follower = named, filtered, Follower()
-        self.turns, self.keeps_all = turns, keeps_all
-        self.records, self.runs = [], []
+        self.runs, self.keeps_all = runs, keeps_all
+        self.next_run, self.has_line = 0, False  # the run that isn't over yet, and whether it has a line
+        self.silent = []  # runs without a line, which have no mark yet
         self.text = Text(named, self.follower)
         self.steps = []  # of the rows
         self.marks, self.arrows, self.waits, self.loans = [], [], [], []
@@ -122,7 +125,43 @@ class Chart:
             self.follower.feed(record)
         elif self.filter.last is None or record.step <= self.filter.last:
             self.bounds = (self.bounds[0] if self.bounds else record.step, record.step)
+            self.take_runs(record)
             self.takers[record.what](record, line)
+
+    # Who runs between the lines.
+
+    def take_runs(self, record):
+        """Puts marks for the runs before this record that have no line of their own."""
+        while self.next_run < len(self.runs) and self.runs[self.next_run].last < record.step:
+            self.pass_run()
+        self.flush_runs()
+        if self.next_run < len(self.runs) and self.runs[self.next_run].first <= record.step and record.what in ACTS:
+            self.has_line = True
+
+    def pass_run(self):
+        """The next run is over."""
+        if not self.has_line:
+            self.silent.append(self.runs[self.next_run])
+        self.next_run, self.has_line = self.next_run + 1, False
+
+    def flush_runs(self):
+        """A mark for each silent run, or one for those of each thread where they are many."""
+        groups = [[run] for run in self.silent]
+        if len(groups) > MOST_SILENT:
+            by_thread = {}
+            for run in self.silent:
+                by_thread.setdefault(run.thread, []).append(run)
+            groups = sorted(by_thread.values(), key=lambda runs: runs[0].first)
+        self.silent = []
+        for runs in groups:
+            first, last = runs[0].first, runs[-1].last
+            times = f", {len(runs)} times in turn with others" if len(runs) > 1 else ""
+            text = f"runs, steps {first} to {last}{times}" if last > first else f"runs, step {first}"
+            record = decode.Record(first, runs[0].thread, RUN, ())
+            self.mark(record, "", RUN, text)
+            made = self.latest.get(runs[0].thread)
+            if made and made.kind == RUN and made.lines:
+                made.lines[:] = [("no line of the transcript", f"{first} {self.named.thread(runs[0].thread)} {text}")]
 
     # Rows and marks.
 
@@ -158,7 +197,10 @@ class Chart:
         row = self.row(record, thread)
         made = Mark(row, thread, kind, label, call, message)
         if self.is_drawn(record):
-            self.add_line(made, record, line, call)
+            if kind == RUN:
+                made.lines.append((line, label))
+            else:
+                self.add_line(made, record, line, call)
         made.before = self.latest.get(thread)
         if made.before:
             made.before.before = None  # so that no more than two marks of a lane are kept for it
@@ -455,6 +497,10 @@ class Chart:
 
     def finish(self):
         """All lines were fed: waits that don't end, and no more marks than can be drawn."""
+        last = self.filter.last
+        while self.next_run < len(self.runs) and (last is None or self.runs[self.next_run].first <= last):
+            self.pass_run()
+        self.flush_runs()
         for call, row in self.waiting.values():
             self.end_waits(call, row, BOTTOM)
         self.settle(self.last_row())

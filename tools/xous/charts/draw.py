@@ -1,6 +1,10 @@
 """A chart as SVG: lanes side by side, steps downwards."""
 
+from __future__ import annotations
+
+import re
 import textwrap
+from bisect import bisect_left, bisect_right
 from xml.etree import ElementTree
 
 from ..transcripts import decode
@@ -17,6 +21,7 @@ LEGEND_ITEM, LEGEND_ROW = 168, 20
 HUES = ("#00796b", "#0063a5", "#7b3f98", "#8a6400", "#37598a", "#a0405f")
 RED, GREY, PALE, ORANGE, BLUE, INK = "#c62828", "#5f6b76", "#e3e7eb", "#e69f00", "#56b4e9", "#263238"
 
+NOT_XML = re.compile("[^\\t\\n\\r\\u0020-\\ud7ff\\ue000-\\ufffd\\U00010000-\\U0010ffff]")
 STYLE = f"""
 text {{ font: 11px "DejaVu Sans", Verdana, Helvetica, Arial, sans-serif; fill: #1d2730 }}
 .halo {{ paint-order: stroke; stroke: #fff; stroke-width: 3px; stroke-linejoin: round }}
@@ -58,6 +63,16 @@ def titled(parent, text, classes="m", message=None):
 
 def short(text, most=SHORT):
     return text if len(text) <= most else f"{text[: most - 1]}…"
+
+
+def in_two(text):
+    """A text in at most two lines of much the same length, the second cut where it is too long."""
+    for width in range(len(text) // 2 + 1, SHORT + 1):
+        lines = textwrap.wrap(text, width, break_long_words=False)
+        if len(lines) <= 2 and all(len(line) <= SHORT for line in lines):
+            return lines
+    first, *rest = textwrap.wrap(text, SHORT, break_long_words=False)
+    return [short(first), short(" ".join(rest))] if rest else [short(first)]
 
 
 class Drawing:
@@ -151,12 +166,19 @@ class Drawing:
                 if self.edges[thread][1] - self.x[thread] > 80:
                     write(parent, self.x[thread] + 16, 41, text, "note")
 
-    def body(self, parent):
+    def steps(self, parent):
+        """The numbers of the steps, one in each row."""
         for row, step in enumerate(self.chart.steps):
-            add(parent, "line", x1=float(STEPS), x2=self.width - 4, y1=self.y(row), y2=self.y(row), stroke=PALE)
             write(parent, STEPS - 8, self.y(row) + 4, str(step), "step left")
+
+    def body(self, parent):
+        for row in range(len(self.chart.steps)):
+            add(parent, "line", x1=float(STEPS), x2=self.width - 4, y1=self.y(row), y2=self.y(row), stroke=PALE)
+        self.steps(parent)
         for thread in self.lanes:
             self.lifeline(parent, thread)
+        for run in self.chart.runs:
+            self.run(parent, run)
         for wait in self.chart.waits:
             self.wait(parent, wait)
         for span in self.spans:
@@ -174,6 +196,16 @@ class Drawing:
         x = self.x[thread]
         for first, last in self.chart.lives.get(thread, ()):
             add(parent, "line", x1=x, x2=x, y1=self.y(first), y2=self.y(last), stroke=self.hue(thread), stroke_width=2)
+
+    def run(self, parent, run):
+        """A band beside the lane of a thread, over the rows of the steps that it did."""
+        first, last = bisect_left(self.chart.steps, run.first), bisect_right(self.chart.steps, run.last) - 1
+        if run.thread not in self.x or first > last:
+            return
+        steps = f"steps {run.first} to {run.last}" if run.last > run.first else f"step {run.first}"
+        group = titled(parent, f"{self.named.thread(run.thread)} runs, {steps}", "m run")
+        place = {"x": self.x[run.thread] - 5, "y": self.y(first) - ROW / 2, "width": 10.0}
+        add(group, "rect", **place, height=self.y(last) - self.y(first) + ROW, rx=3, fill=self.hue(run.thread), fill_opacity="0.28")
 
     def wait(self, parent, wait):
         if wait.thread not in self.x:
@@ -260,6 +292,8 @@ class Drawing:
         lines = "\n".join(f"{text}\n    {line}" for line, text in mark.lines)
         more = f"\n(and as many more as make {mark.count})" if mark.count > 1 else ""
         group = titled(parent, lines + more, f"m mark {mark.kind}", self.number(mark.message))
+        group.set("data-row", str(mark.row))
+        group.set("data-lane", str(self.lanes.index(mark.thread)))
         x, y = self.x[mark.thread], self.y(mark.row)
         SHAPES[mark.kind](self, group, mark, x, y)
         if mark.kind == model.TEXT:
@@ -269,10 +303,7 @@ class Drawing:
 
     def lines_of(self, mark):
         """The lines of a mark's label: two where one is too short, as of faults."""
-        if len(mark.label) <= SHORT:
-            return [mark.label]
-        lines = textwrap.wrap(mark.label, SHORT)
-        return [*lines[:1], short(" ".join(lines[1:]))]
+        return [mark.label] if len(mark.label) <= SHORT else in_two(mark.label)
 
     def label(self, group, mark, x, y):
         sides = self.sides.get((mark.row, mark.thread), ())
@@ -328,6 +359,9 @@ class Drawing:
     def bar(self, group, mark, x, y):
         add(group, "path", d=f"M{x - 7:.1f},{y:.1f} h14", stroke=self.hue(mark.thread), stroke_width=4)
 
+    def dash(self, group, mark, x, y):
+        add(group, "path", d=f"M{x - 4:.1f},{y:.1f} h8", stroke=self.hue(mark.thread), stroke_width=3)
+
     def diamond(self, group, _mark, x, y):
         add(group, "path", d=f"M{x:.1f},{y - 7:.1f} l7,7 l-7,7 l-7,-7 z", fill=ORANGE, stroke="#fff")
 
@@ -336,12 +370,13 @@ class Drawing:
     def legend(self, parent):
         """What the signs mean, in rows; answers the height."""
         across = max(1, int((self.width - STEPS) // LEGEND_ITEM))
-        for place, (sign, text) in enumerate(LEGEND):
+        signs = LEGEND + LEGEND_OF_RUNS * bool(self.chart.runs)
+        for place, (sign, text) in enumerate(signs):
             x = STEPS + 8.0 + LEGEND_ITEM * (place % across)
             y = 14.0 + LEGEND_ROW * (place // across)
             sign(parent, x, y)
             write(parent, x + 16, y + 4, text, "step")
-        return 12 + LEGEND_ROW * (-(-len(LEGEND) // across))
+        return 12 + LEGEND_ROW * (-(-len(signs) // across))
 
 
 SHAPES = {
@@ -350,6 +385,7 @@ SHAPES = {
     model.AGAIN: Drawing.again,
     model.TEXT: Drawing.square,
     model.DEATH: Drawing.cross,
+    model.RUN: Drawing.dash,
     decode.REPLY: Drawing.ring,
     decode.FAULT: Drawing.triangle,
     decode.END: Drawing.bar,
@@ -404,6 +440,11 @@ LEGEND = (
     (sign_of_path("m-6,-6 l12,12 m0,-12 l-12,12", "none", RED), "a death"),
 )
 
+LEGEND_OF_RUNS = (
+    (sign_of_box(10, f"{HUES[0]}47"), "the thread runs"),
+    (sign_of_path("m-4,0 h8", "none", HUES[0]), "it runs without a line"),
+)
+
 
 def outer(width, height, title):
     """An SVG element of this size."""
@@ -415,7 +456,14 @@ def outer(width, height, title):
     return element
 
 
+def clean(text):
+    """A text without what XML can't have, as control bytes of a file's name."""
+    return NOT_XML.sub("?", text)
+
+
 def text_of(element):
+    for each in element.iter():
+        each.text = clean(each.text) if each.text else each.text
     return ElementTree.tostring(element, encoding="unicode")
 
 

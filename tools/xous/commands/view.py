@@ -7,7 +7,7 @@ import contextlib
 import os
 import re
 import sys
-from collections.abc import Iterator
+from collections.abc import Iterable, Iterator
 from typing import BinaryIO
 
 from .. import names
@@ -19,6 +19,7 @@ from ..images.named import names_of, read_image, sections_of
 from ..machine import FIRST_PID
 from ..programs.symbols import Program
 from ..runs import events
+from ..runs.acting import Stretch, stretches_of
 from ..transcripts import summary, view
 
 NAME = "xous-view"
@@ -153,19 +154,23 @@ def write_chart(path: str, text: str) -> None:
     write_whole(path, text.encode(), lambda beginning: not beginning or beginning.startswith(starts), kind)
 
 
-def turns_given(given: argparse.Namespace) -> tuple[list[events.Event], int] | None:
-    """The events and how many processes the image has, where they are given."""
+def lines_and_runs(given: argparse.Namespace, source: BinaryIO) -> tuple[Iterable[str], list[Stretch]]:
+    """The transcript's lines, and who did each step, where the events are given."""
+    lines: Iterable[str] = (line for part in view.lines_of(source) for line in part)
     if given.events is None:
-        return None
+        return lines, []
+    kept = list(lines)
     played, _ = events.read(read_file(given.events, MOST_EVENT_BYTES))
-    return played, len(read_image(given.image).processes)
+    return kept, stretches_of(kept, played, len(read_image(given.image).processes))
 
 
 def make_chart(given: argparse.Namespace, named: names.Names, filtered: view.Filter, source: BinaryIO) -> int:
     """Draws the chart, or writes a trace where it has too many marks."""
     refuse_inputs(given.chart, [path for path in (given.transcript, given.image, given.events, *(path for _, path in given.elf)) if path])
-    drawn = chart.Chart(named, filtered, turns_given(given), keeps_all=True)
-    fed(drawn, source)
+    lines, runs = lines_and_runs(given, source)
+    drawn = chart.Chart(named, filtered, runs, keeps_all=True)
+    for line in lines:
+        drawn.feed(line)
     drawn.finish()
     path = given.chart
     if path.endswith(".json") or drawn.count > chart.MOST_MARKS:

@@ -248,6 +248,7 @@ def symbols_of(elf):
 
 
 def refuse_other_files(path, file):
+    """Says of a file that is no ELF file what it is."""
     start = file.read(4)
     file.seek(0)
     if not start:

@@ -15,7 +15,7 @@ from ..files import MOST_ELF_BYTES, read_whole
 from ..images.layout import EXECUTABLE, Process
 from ..images.named import plain
 from ..images.reading import bytes_of_sections
-from .elf import elf_library, read_program, symbol_rows
+from .elf import elf_library, read_program, refuse_other_files, symbol_rows
 from .lines import Lines, Spot
 
 NO_TYPE, OBJECT, FUNCTION = 0, 1, 2  # kinds of symbols
@@ -36,7 +36,9 @@ class Program:
         elf_file, errors = elf_library()
         self.path = path
         try:
-            elf = elf_file(io.BytesIO(read_whole(path, MOST_ELF_BYTES)))
+            file = io.BytesIO(read_whole(path, MOST_ELF_BYTES))
+            refuse_other_files(path, file)
+            elf = elf_file(file)
             if elf.elfclass != 32 or not elf.little_endian:
                 raise Refusal(f"{path}: not a 32-bit RISC-V file; give the program that is in the image")
             self.symbols = sorted(symbols_of(elf))
