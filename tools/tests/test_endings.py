@@ -301,14 +301,14 @@ class Json(Case):
 
     def test_view(self):
         lines = told_json("view", "--json", "--image", LEND / "image", LEND / "expected")
-        self.assertTrue(all(set(line) == self.fields("transcript.md", "With `--json` each line") for line in lines))
+        self.assertTrue(all(set(line) == self.fields("transcript.md", "`tools/xous-view --json` prints an object") for line in lines))
         send = next(line for line in lines if line["call"] == "SendMessage" and line["kind"] == "reply")
         self.assertEqual((send["step"], send["pid"], send["process"], send["of_step"], send["message"]), (73, 3, "client", 62, 1))
         self.assertEqual(len(lines), len((LEND / "expected").read_text().splitlines()))
 
     def test_image(self):
         (image,) = told_json("image", "--list", LEND / "image", "--json")
-        fields = self.fields("image.md", "With `--json`, `--list` prints")
+        fields = self.fields("image.md", "With `--json` it prints one object")
         self.assertEqual(set(image) | {"sections"}, fields)
         self.assertEqual(set(image["processes"][0]), {"pid", "name", "entry", "load", "check", "sections"})
         self.assertEqual(set(image["processes"][0]["sections"][0]), {"address", "size", "right", "zeros"})
@@ -319,7 +319,7 @@ class Json(Case):
             self.skipTest("no program xousim is given: tools/test XOUSIM")
         ran = self.tool("xous-where", FAULT / "image", FAULT / "events", "--fault", "--json", "--watch", "3:0x60000000")
         (state,) = map(json.loads, ran.stdout.splitlines())
-        self.assertEqual(set(state), self.fields("transcript.md", "`--json` prints an object for each state"))
+        self.assertEqual(set(state), self.fields("transcript.md", "`tools/xous-where --json` prints an object"))
         self.assertEqual((state["step"], state["fault"]["cause"], state["fault"]["value"]), (76, 15, 0x6000_0000))
         self.assertEqual([thread["state"] for thread in state["threads"] if thread["next"]], ["Ready"])
         self.assertIn("lent mutably to 2", state["watched"][0]["why"])
