@@ -14,6 +14,7 @@ import pathlib
 import signal
 import sys
 import traceback
+from collections.abc import Callable
 from typing import NoReturn
 
 from .errors import Fault, Refusal
@@ -28,6 +29,7 @@ STATUSES = """statuses:
   4   the output is closed, or its disk is full
   9   memory has run out
   130 interrupted by Control-C"""
+OWN_STATUSES = "statuses: 0 if all is as it should be, 1 if not, 2 if the words make no sense"
 OUTPUT_ERRORS = (errno.EPIPE, errno.ENOSPC, errno.EFBIG, errno.EDQUOT, errno.EBADF, errno.EIO)
 
 
@@ -145,7 +147,7 @@ def ended(name: str, error: BaseException) -> int:
     return INTERNAL
 
 
-def run(name: str, module: str, words: list[str]) -> int:
+def run(name: str, main: Callable[[list[str]], int], words: list[str]) -> int:
     """The status of a tool with these words."""
     if signal.getsignal(signal.SIGINT) is signal.SIG_DFL:
         signal.signal(signal.SIGINT, signal.default_int_handler)
@@ -153,7 +155,7 @@ def run(name: str, module: str, words: list[str]) -> int:
     try:
         if not open_streams():
             raise Refusal("standard output is closed", WRITE_FAULT)
-        status = importlib.import_module(module).main(words)
+        status = main(words)
     except BaseException as error:  # pylint: disable=broad-exception-caught
         status = ended(name, error)
     try:
@@ -164,7 +166,26 @@ def run(name: str, module: str, words: list[str]) -> int:
 
 
 def start(name: str, module: str) -> NoReturn:
-    """Runs a tool with the words of the command line, and ends with its status."""
-    status = run(name, f"xous.commands.{module}", sys.argv[1:])
-    lose_output() if status == WRITE_FAULT else None
+    """Runs `xous.commands.MODULE` with the words of the command line, and ends with its status."""
+    finish(run(name, lambda words: importlib.import_module(f"xous.commands.{module}").main(words), sys.argv[1:]))
+
+
+def start_own(name: str, text: str, main: Callable[[list[str]], int]) -> NoReturn:
+    """Runs a tool that is one file, whose help is its own text. It takes --help and --version alone."""
+
+    def guarded(words: list[str]) -> int:
+        if words == ["--help"]:
+            print(text.strip() + "\n\n" + OWN_STATUSES)
+        elif words == ["--version"]:
+            print(f"{name} {version()}")
+        else:
+            return main(words)
+        return DONE
+
+    finish(run(name, guarded, sys.argv[1:]))
+
+
+def finish(status: int) -> NoReturn:
+    if status == WRITE_FAULT:
+        lose_output()
     sys.exit(status)

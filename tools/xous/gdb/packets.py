@@ -6,6 +6,7 @@ import os
 import select
 
 ESCAPED = b"#$}*"
+LONGEST = 1 << 20  # bytes without an end, which are no packet
 
 
 class Closed(Exception):
@@ -33,7 +34,10 @@ class Packets:
         self.sent = b""
 
     def fill(self):
-        data = os.read(self.source, 1 << 16)
+        try:
+            data = os.read(self.source, 1 << 16)
+        except ConnectionResetError:
+            raise Closed from None
         if not data:
             raise Closed
         self.buffer += data
@@ -50,7 +54,7 @@ class Packets:
         try:
             while data:
                 data = data[os.write(self.target, data) :]
-        except BrokenPipeError:
+        except (BrokenPipeError, ConnectionResetError):
             raise Closed from None
 
     def read(self):
@@ -72,6 +76,8 @@ class Packets:
             elif start != 0 and self.buffer:
                 self.buffer = self.buffer[start:] if start > 0 else b""
             else:
+                if len(self.buffer) > LONGEST:
+                    self.buffer = b""
                 self.fill()
 
     def is_whole(self, contents, check):

@@ -4,6 +4,7 @@ from __future__ import annotations
 
 import contextlib
 import os
+import re
 import sys
 
 from ..errors import Refusal
@@ -19,8 +20,19 @@ FEATURES = (
     "PacketSize=20000;QStartNoAckMode+;multiprocess+;ReverseStep+;ReverseContinue+;vContSupported+;"
     "qXfer:features:read+;qXfer:threads:read+;qXfer:exec-file:read+"
 )
+DIGITS = re.compile("[0-9a-fA-F]{1,16}")
 NOT_WRITTEN = "nothing can be written: the run is what its image and its events make of it"
 ALL, ANY = -1, 0
+MOST_BYTES = 1 << 16  # of memory in one answer
+# What comes of a packet that isn't formed as the protocol has it.
+MALFORMED = (ValueError, IndexError, KeyError, TypeError, OverflowError)
+
+
+def number(text):
+    """A number of hexadecimal digits, and nothing else."""
+    if not DIGITS.fullmatch(text):
+        raise ValueError(f"{text[:40]!r} is no number")
+    return int(text, 16)
 
 
 class Server:
@@ -54,6 +66,8 @@ class Server:
             reply = HANDLERS[name](self, text[len(name) :]) if name else None
         except Interrupted:
             reply = "E04"
+        except MALFORMED:
+            reply = "E01"
         except Refusal as refusal:
             print(f"xous-gdb: {refusal}", file=sys.stderr, flush=True)
             reply = "E01"
@@ -112,7 +126,7 @@ class Server:
         if action[0] in "sS":
             return self.go(self.history.step_forward)
         if action[0] == "r":
-            start, end = (int(word, 16) for word in action[1:].split(","))
+            start, end = (number(word) for word in action[1:].split(","))
             who = target.read_thread(thread) if thread else self.general
             return self.go(lambda: self.history.step_over(who, start, end))
         return None
@@ -151,11 +165,12 @@ class Server:
         return target.registers(self.history.state(), self.general)
 
     def read_register(self, text):
-        at = 8 * int(text, 16)
+        at = 8 * number(text)
         return target.registers(self.history.state(), self.general)[at : at + 8] or "E01"
 
     def read_memory(self, text):
-        address, length = (int(word, 16) for word in text.split(","))
+        address, length = (number(word) for word in text.split(","))
+        length = min(length, MOST_BYTES)  # gdb asks for the rest again
         state, pid = self.history.state(), self.general[0]
         try:
             return reach.load(state, pid, address, length).hex()
@@ -184,11 +199,11 @@ class Server:
     def points_of(self, text):
         """The set of the point that a packet names, and the point."""
         kind, address, length = text.split(";")[0].split(",")
-        pid, address = self.general[0], int(address, 16)
+        pid, address = self.general[0], number(address)
         if kind in "01":
             return self.history.breaks.points, Breakpoint(pid, address)
         if kind == "2":
-            return self.history.watches.points, Watchpoint(pid, address, int(length, 16))
+            return self.history.watches.points, Watchpoint(pid, address, min(max(number(length), 1), MOST_BYTES))
         return None, None
 
     def insert(self, text):
@@ -218,11 +233,11 @@ class Server:
         contents = {
             "features": lambda: target.description() if annex == "target.xml" else None,
             "threads": lambda: target.thread_list(self.history.state(), self.first, self.programs),
-            "exec-file": lambda: self.program_path(int(annex, 16) if annex else self.general[0]),
+            "exec-file": lambda: self.program_path(number(annex) if annex else self.general[0]),
         }.get(kind, lambda: None)()
         if contents is None:
             return "E00"
-        offset, length = (int(word, 16) for word in part.split(","))
+        offset, length = (number(word) for word in part.split(","))
         data = contents.encode()
         piece = data[offset : offset + length]
         return (b"m" if offset + len(piece) < len(data) else b"l") + piece

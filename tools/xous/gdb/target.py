@@ -3,6 +3,7 @@
 from __future__ import annotations
 
 import os
+import re
 import struct
 from xml.sax.saxutils import escape, quoteattr
 
@@ -11,6 +12,7 @@ from ..states import telling
 
 REGISTERS = [*telling.NAMES, "pc"]
 PC = REGISTERS.index("pc")
+THREAD = re.compile(r"(?:p(?:-1|[0-9a-fA-F]{1,8})(?:\.(?:-1|[0-9a-fA-F]{1,8}))?|-1|[0-9a-fA-F]{1,8})")
 KINDS = {"ra": "code_ptr", "pc": "code_ptr", "sp": "data_ptr", "gp": "data_ptr", "tp": "data_ptr"}
 
 
@@ -30,7 +32,9 @@ def thread_text(who):
 
 def read_thread(text):
     """The pid and tid of a thread id; -1 is all of them, and 0 any."""
-    pid, _, tid = text.lstrip("p").partition(".")
+    pid, _, tid = text.removeprefix("p").partition(".")
+    if not THREAD.fullmatch(text):
+        raise ValueError(f"{text[:40]!r} is no thread")
     if not text.startswith("p"):
         return 0, int(pid, 16)
     return int(pid, 16), int(tid, 16) if tid else -1
