@@ -89,6 +89,13 @@ class AnyBytes(Case):
         record = decode.record_of(line)
         self.assertTrue(record is None or decode.spelled(record) == line)
 
+    def test_long_numbers(self):
+        """Numbers of thousands of digits are none of a transcript, of events or of a word of the command line."""
+        many = "9" * 5000
+        for line in (f"{many} 2.2 call" + " 00000001" * 8, f"1 {many}.2 retry", f"1 2.{many} end", f"end {many} done", f"1 2.2 fault {many} 00000000"):
+            self.assertIsNone(decode.record_of(line))
+        self.assertEqual(events.read(f"tick {many}".encode()), ([], 1))
+
     @FEW
     @given(some.binary(max_size=300))
     def test_events(self, data):

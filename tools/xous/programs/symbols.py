@@ -80,8 +80,9 @@ class Program:
 
     def spot(self, address: int) -> Spot:
         """Where in the source an instruction is, as far as the program has that."""
-        own = next((spot for spot in self.frames(address) if not spot.file.endswith(".h")), None)
-        return own or Spot(self.symbol_at(address) or f"{address:08x}")
+        function = self.symbol_at(address) or f"{address:08x}"
+        own = next((spot for spot in self.frames(address) if not spot.file.endswith(".h")), Spot(function))
+        return Spot(function, own.file, own.line) if own.function.startswith((".", "?")) else own
 
     def text(self, address: int) -> str:
         """Symbol and line of an address as `<store+4 client.c:6>`, or nothing."""

@@ -51,7 +51,7 @@ def is_event_file(beginning: bytes) -> bool:
 
 def read(data: bytes) -> tuple[list[Event], int | None]:
     """The events before the first bad line, and the number of that line, or None."""
-    events = []
+    events: list[Event] = []
     for number, line in enumerate(data.split(b"\n"), 1):
         is_long = len(line) > LONGEST_LINE
         line = line[:-1] if line.endswith(b"\r") else line

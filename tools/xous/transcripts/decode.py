@@ -9,8 +9,9 @@ from typing import NamedTuple
 CALL, REPLY, RETRY, BYTE, FAULT = "call", "reply", "retry", "byte", "fault"
 END, IRQ, GONE, DONE, LIMIT = "end", "irq", "gone", "done", "limit"
 
-NUMBER = "(0|[1-9][0-9]*)"
-THREAD = r"((?:0|[1-9][0-9]*)\.(?:0|[1-9][0-9]*))"
+NUMBER = "(0|[1-9][0-9]{0,17})"
+THREAD = r"((?:0|[1-9][0-9]{0,17})\.(?:0|[1-9][0-9]{0,17}))"
+MOST_DIGITS = 18
 WORD = "[0-9a-f]{8}"
 A_THREAD = re.compile(THREAD).fullmatch
 EIGHT_WORDS = re.compile(rf"{WORD}(?: {WORD}){{7}}").fullmatch
@@ -84,7 +85,7 @@ def spelled(record: Record) -> str:
 
 
 def is_number(text):
-    return text.isdigit() and text.isascii() and (text[0] != "0" or text == "0")
+    return len(text) <= MOST_DIGITS and text.isdigit() and text.isascii() and (text[0] != "0" or text == "0")
 
 
 def of_thread(match):
@@ -108,8 +109,8 @@ def record_of(line: str) -> Record | None:
     parts = line.split(" ", 3)
     if len(parts) == 4 and parts[2] in WITH_WORDS:  # most lines: no pattern is looked for in what came before
         step, thread, what, text = parts
-        thread, words = THREADS[thread], WORDS[text]
-        return Record(int(step), thread, what, words) if thread and words and is_number(step) else None
+        who, words = THREADS[thread], WORDS[text]
+        return Record(int(step), who, what, words) if who and words and is_number(step) else None
     match = OF_THREAD(line)
     if match:
         return of_thread(match)
