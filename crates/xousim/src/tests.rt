@@ -52,7 +52,7 @@ fn host_of(alloc: Global, image: &[u8]) -> Result<MemHost, Fail> {
 }
 
 /// Runs the program with these words over these objects.
-fn run<H: Host, W: SwapStore>(
+fn run<H: Host, W: SwapStore + Drop>(
     alloc: Global,
     texts: &[&str],
     host: &mut H,
