@@ -210,6 +210,17 @@ class Play:
         return False
 
 
+def lines(pieces):
+    """The lines of a console, as text. A line may come in pieces."""
+    text = ""
+    for piece in pieces:
+        text += piece.decode(errors="replace")
+        *whole, text = text.split("\n")
+        yield from whole
+    if text:
+        yield text
+
+
 def status_of(end, name, files, steps, where):
     """The status of a run, and a sentence if it isn't the program's own."""
     if end.fault:
