@@ -3,11 +3,11 @@
 
 int main(void)
 {
-    struct identifier name = {{'h', 'o', 'l', 'd'}};
-    word server = connect(name).word[1];
-    volatile word *page = (volatile word *)map_memory(0, 0, PAGE_SIZE, R | W).word[1];
+    struct xous_identifier name = XOUS_SERVER("hold");
+    xous_word server = xous_connect(name).word[1];
+    volatile xous_word *page = (volatile xous_word *)xous_map_memory(0, 0, XOUS_PAGE_SIZE, XOUS_R | XOUS_W).word[1];
 
-    struct reply reply = send_message(server, MUTABLE_LEND, 1, (word)page, PAGE_SIZE, 0, 4);
+    struct xous_reply reply = xous_send_message(server, XOUS_MUTABLE_LEND, 1, (xous_word)page, XOUS_PAGE_SIZE, 0, 4);
     *page += 100;
     return 1000 * reply.word[0] + *page;
 }

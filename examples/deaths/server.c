@@ -3,14 +3,14 @@
 
 int main(void)
 {
-    struct identifier name = {{'h', 'o', 'l', 'd'}};
+    struct xous_identifier name = XOUS_SERVER("hold");
 
-    create_server_with_address(name);
+    xous_create_server_with_address(name);
     for (;;) {
-        struct reply message = receive_message(name);
+        struct xous_reply message = xous_receive_message(name);
 
-        yield();
-        *(word *)message.word[ADDRESS] += 1;
-        return_memory(message.word[TOKEN], message.word[ADDRESS], message.word[LENGTH], 0, 4);
+        xous_yield();
+        *(xous_word *)message.word[XOUS_ADDRESS] += 1;
+        xous_return_memory(message.word[XOUS_TOKEN], message.word[XOUS_ADDRESS], message.word[XOUS_LENGTH], 0, 4);
     }
 }

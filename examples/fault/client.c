@@ -1,7 +1,7 @@
 /* Lends a page while its second thread stores into it. */
 #include "xous.h"
 
-static word store(volatile word *page)
+static xous_word store(volatile xous_word *page)
 {
     *page = 1;
     return 0;
@@ -9,12 +9,12 @@ static word store(volatile word *page)
 
 int main(void)
 {
-    struct identifier name = {{'f', 'i', 'l', 'l'}};
-    word page = map_memory(0, 0, PAGE_SIZE, R | W).word[1];
-    word stack = increase_heap(PAGE_SIZE).word[1] + PAGE_SIZE;
-    word server = connect(name).word[1];
+    struct xous_identifier name = XOUS_SERVER("fill");
+    xous_word page = xous_map_memory(0, 0, XOUS_PAGE_SIZE, XOUS_R | XOUS_W).word[1];
+    xous_word stack = xous_increase_heap(XOUS_PAGE_SIZE).word[1] + XOUS_PAGE_SIZE;
+    xous_word server = xous_connect(name).word[1];
 
-    create_thread((word)store, stack, page, 0, 0, 0);
-    send_message(server, MUTABLE_LEND, 7, page, PAGE_SIZE, 0, 0);
+    xous_create_thread((xous_word)store, stack, page, 0, 0, 0);
+    xous_send_message(server, XOUS_MUTABLE_LEND, 7, page, XOUS_PAGE_SIZE, 0, 0);
     return 0;
 }

@@ -3,16 +3,16 @@
 
 int main(void)
 {
-    struct identifier name = {{'f', 'i', 'l', 'l'}};
+    struct xous_identifier name = XOUS_SERVER("fill");
 
-    create_server_with_address(name);
+    xous_create_server_with_address(name);
     for (;;) {
-        struct reply message = receive_message(name);
-        char *page = (char *)message.word[ADDRESS];
+        struct xous_reply message = xous_receive_message(name);
+        char *page = (char *)message.word[XOUS_ADDRESS];
 
         page[0] = 'o';
         page[1] = 'k';
         page[2] = '\n';
-        return_memory(message.word[TOKEN], message.word[ADDRESS], message.word[LENGTH], 0, 3);
+        xous_return_memory(message.word[XOUS_TOKEN], message.word[XOUS_ADDRESS], message.word[XOUS_LENGTH], 0, 3);
     }
 }

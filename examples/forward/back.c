@@ -1,15 +1,18 @@
 /* Adds one to the first word of each page that is passed on to it, and gives the page back to its lender. */
-#include "xous.h"
+#include "checked.h"
 
 int main(void)
 {
-    struct identifier back = {{'b', 'a', 'c', 'k'}};
+    struct xous_identifier back = XOUS_SERVER("back");
+    xous_word connection;
 
-    create_server_with_address(back);
+    xous_need(xous_make_server(back, &connection));
     for (;;) {
-        struct reply message = receive_message(back);
+        struct xous_message message;
 
-        *(word *)message.word[ADDRESS] += 1;
-        return_memory(message.word[TOKEN], message.word[ADDRESS], message.word[LENGTH], 0, 4);
+        xous_need(xous_take_message(back, &message));
+        if (message.kind == XOUS_MUTABLE_LEND)
+            *(xous_word *)xous_pages_of(&message) += 1;
+        xous_need(xous_dismiss(&message));
     }
 }

@@ -1,13 +1,16 @@
 /* Lends a page with the word 41 to the front server, and ends with the word that it then has. */
-#include "xous.h"
+#include "checked.h"
+
+#define COUNT 1
 
 int main(void)
 {
-    struct identifier front = {{'f', 'r', 'o', 'n'}};
-    word server = connect(front).word[1];
-    volatile word *page = (volatile word *)map_memory(0, 0, PAGE_SIZE, R | W).word[1];
+    xous_word *page, server, valid = sizeof *page;
+
+    xous_need(xous_find_server(XOUS_SERVER("front"), &server));
+    xous_need(xous_get_pages(XOUS_PAGE_SIZE, &page));
 
     *page = 41;
-    send_message(server, MUTABLE_LEND, 1, (word)page, PAGE_SIZE, 0, 4);
+    xous_need(xous_lend_to_fill(server, COUNT, page, XOUS_PAGE_SIZE, &valid));
     return *page;
 }

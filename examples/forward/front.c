@@ -1,13 +1,20 @@
 /* Passes each page that is lent to it on to the server behind. */
-#include "xous.h"
+#include "checked.h"
 
 int main(void)
 {
-    struct identifier front = {{'f', 'r', 'o', 'n'}};
-    struct identifier back = {{'b', 'a', 'c', 'k'}};
+    struct xous_identifier front = XOUS_SERVER("front");
+    xous_word connection, behind;
 
-    create_server_with_address(front);
-    word behind = connect(back).word[1];
-    for (;;)
-        forward_message(receive_message(front).word[TOKEN], behind);
+    xous_need(xous_make_server(front, &connection));
+    xous_need(xous_find_server(XOUS_SERVER("back"), &behind));
+    for (;;) {
+        struct xous_message message;
+
+        xous_need(xous_take_message(front, &message));
+        if (message.kind == XOUS_MUTABLE_LEND)
+            xous_need(xous_pass_on(&message, behind));
+        else
+            xous_need(xous_dismiss(&message));
+    }
 }

@@ -1,8 +1,11 @@
 /* Writes a word to the console and ends. */
-#include "xous.h"
+#include "checked.h"
 
 int main(void)
 {
-    print((volatile char *)map_console().word[1], "hello\n");
+    volatile char *console;
+
+    xous_need(xous_open_console(&console));
+    xous_print(console, "hello\n");
     return 0;
 }

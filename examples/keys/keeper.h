@@ -12,27 +12,27 @@ enum request {
 };
 
 static volatile struct {
-    word secret, shown;
+    xous_word secret, shown;
 } inside = {SECRET, SHOWN};
-static volatile word sealed[WORDS];
+static volatile xous_word sealed[WORDS];
 
-static inline word turned(word key)
+static inline xous_word turned(xous_word key)
 {
     return key << 5 | key >> 27;
 }
 
-static inline word keep(const volatile word *page)
+static inline xous_word keep(const volatile xous_word *page)
 {
-    word key = inside.secret;
+    xous_word key = inside.secret;
 
     for (int i = 0; i < WORDS; i++, key = next(turned(key)))
         sealed[i] = seal(page[i], key);
     return sealed[0] & inside.shown;
 }
 
-static inline word give(volatile word *page)
+static inline xous_word give(volatile xous_word *page)
 {
-    word key = inside.secret;
+    xous_word key = inside.secret;
 
     for (int i = 0; i < WORDS; i++, key = next(turned(key)))
         page[i] = open(sealed[i], key);
@@ -41,14 +41,15 @@ static inline word give(volatile word *page)
 
 int main(void)
 {
-    struct identifier name = {{'k', 'e', 'y', 's'}};
+    struct xous_identifier name = XOUS_SERVER("keys");
 
-    create_server_with_address(name);
+    xous_create_server_with_address(name);
     for (;;) {
-        struct reply message = receive_message(name);
-        volatile word *page = (volatile word *)message.word[ADDRESS];
-        word offset = message.word[ID] == KEEP ? keep(page) : give(page);
+        struct xous_reply message = xous_receive_message(name);
+        volatile xous_word *page = (volatile xous_word *)message.word[XOUS_ADDRESS];
+        xous_word offset = message.word[XOUS_ID] == KEEP ? keep(page) : give(page);
 
-        return_memory(message.word[TOKEN], message.word[ADDRESS], message.word[LENGTH], offset, WORDS * sizeof(word));
+        xous_return_memory(message.word[XOUS_TOKEN], message.word[XOUS_ADDRESS], message.word[XOUS_LENGTH], offset,
+                           WORDS * sizeof(xous_word));
     }
 }

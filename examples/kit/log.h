@@ -1,47 +1,51 @@
 /* The log: a server that owns the console (log.c), for programs of which several write. */
-#ifndef LOG_H
-#define LOG_H
+#ifndef XOUS_LOG_H
+#define XOUS_LOG_H
 
 #include "checked.h"
 
 /* The server's name, and the ids of messages that have text: both are those of Rust's std for Xous. */
-#define LOG_SERVER ((struct identifier){{0x73756f78, 0x676f6c2d, 0x7265732d, 0x20726576}}) /* "xous-log-server " */
-#define LOG_TEXT 1u
+#define XOUS_LOG_SERVER XOUS_SERVER("xous-log-server ")
+#define XOUS_LOG_TEXT 1u
 
 /* A connection to the log, and a page in which text is lent to it, with the text of a line that isn't whole yet. */
-struct log {
-    word connection;
+struct xous_log {
+    xous_word connection;
     char *page;
-    word used;
+    xous_word used;
 };
 
 /* Waits until the server is there. */
-CHECKED open_log(struct log *log)
+XOUS_CHECKED xous_open_log(struct xous_log *log)
 {
-    enum error error = find_server(LOG_SERVER, &log->connection);
+    xous_word *page = 0;
+    enum xous_error error = xous_find_server(XOUS_LOG_SERVER, &log->connection);
 
+    if (error == XOUS_NO_ERROR)
+        error = xous_get_pages(XOUS_PAGE_SIZE, &page);
+    log->page = (char *)page;
     log->used = 0;
-    return error == NO_ERROR ? get_pages(PAGE_SIZE, (word **)&log->page) : error;
+    return error;
 }
 
 /* What there is of a line goes to the log. */
-CHECKED flush_log(struct log *log)
+XOUS_CHECKED xous_flush_log(struct xous_log *log)
 {
-    word used = log->used;
+    xous_word used = log->used;
 
     log->used = 0;
-    return used ? lend(log->connection, LOG_TEXT, log->page, PAGE_SIZE, used) : NO_ERROR;
+    return used ? xous_lend(log->connection, XOUS_LOG_TEXT, log->page, XOUS_PAGE_SIZE, used) : XOUS_NO_ERROR;
 }
 
-/* Lines come to the console whole: they are lent at their ends, or where the page is full. */
-CHECKED print_log(struct log *log, const char *text)
+/* Lines come to the console whole: they are lent at their ends, or when the page is full. */
+XOUS_CHECKED xous_print_log(struct xous_log *log, const char *text)
 {
-    enum error error = NO_ERROR;
+    enum xous_error error = XOUS_NO_ERROR;
 
-    for (; *text && error == NO_ERROR; text++) {
+    for (; *text && error == XOUS_NO_ERROR; text++) {
         log->page[log->used++] = *text;
-        if (*text == '\n' || log->used == PAGE_SIZE)
-            error = flush_log(log);
+        if (*text == '\n' || log->used == XOUS_PAGE_SIZE)
+            error = xous_flush_log(log);
     }
     return error;
 }

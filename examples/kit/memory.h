@@ -1,6 +1,6 @@
 /* What a compiler calls by itself, and a program may too: bytes copied, set and compared (memory.c). */
-#ifndef MEMORY_H
-#define MEMORY_H
+#ifndef XOUS_MEMORY_H
+#define XOUS_MEMORY_H
 
 #include <stddef.h>
 

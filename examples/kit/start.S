@@ -4,6 +4,11 @@
     .section .start, "ax"
     .globl _start
 _start:
+#ifdef XOUS_PICOLIBC            // thread-local data, which the library's errno is
+    la a0, xous_first_tls
+    call xous_make_thread_local
+    mv tp, a0
+#endif
 #ifdef CONSTRUCTORS             // functions that run before main, in the order of the linker's list
     la s0, __init_array_start
     la s1, __init_array_end
@@ -15,6 +20,13 @@ _start:
 2:
 #endif
     call main
+#ifdef XOUS_PICOLIBC
+    tail exit
+    .globl xous_libc_thread
+xous_libc_thread:
+    mv tp, a2
+    jr a1
+#else
     mv a1, a0
     li a0, 22               # TerminateProcess; the words below have no meaning
     li a2, 0
@@ -24,3 +36,4 @@ _start:
     li a6, 0
     li a7, 0
     ecall
+#endif

@@ -1,16 +1,16 @@
 /* Numbers as text: print(console, decimal(42).text), or print_log(&log, hexadecimal(42).text). */
-#ifndef TEXT_H
-#define TEXT_H
+#ifndef XOUS_TEXT_H
+#define XOUS_TEXT_H
 
 #include "xous.h"
 
-struct digits {
+struct xous_digits {
     char text[11]; /* ends by 0 */
 };
 
-static inline struct digits decimal(word number)
+static inline struct xous_digits xous_decimal(xous_word number)
 {
-    struct digits digits;
+    struct xous_digits digits;
     char reversed[10];
     int count = 0, place = 0;
 
@@ -25,9 +25,9 @@ static inline struct digits decimal(word number)
 }
 
 /* Eight digits, as a transcript has them. */
-static inline struct digits hexadecimal(word number)
+static inline struct xous_digits xous_hexadecimal(xous_word number)
 {
-    struct digits digits;
+    struct xous_digits digits;
 
     for (int place = 0; place < 8; place++)
         digits.text[place] = "0123456789abcdef"[number >> (28 - 4 * place) & 15];

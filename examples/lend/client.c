@@ -1,15 +1,19 @@
 /* Lends a page to be filled, then stores into it again and writes what is there. */
-#include "xous.h"
+#include "checked.h"
+
+#define FILL 7
 
 int main(void)
 {
-    struct identifier name = {{'f', 'i', 'l', 'l'}};
-    volatile char *console = (volatile char *)map_console().word[1];
-    word page = map_memory(0, 0, PAGE_SIZE, R | W).word[1];
-    word server = connect(name).word[1];
+    volatile char *console;
+    xous_word *page, server, valid = 0;
 
-    send_message(server, MUTABLE_LEND, 7, page, PAGE_SIZE, 0, 0);
+    xous_need(xous_open_console(&console));
+    xous_need(xous_get_pages(XOUS_PAGE_SIZE, &page));
+    xous_need(xous_find_server(XOUS_SERVER("fill"), &server));
+
+    xous_need(xous_lend_to_fill(server, FILL, page, XOUS_PAGE_SIZE, &valid));
     *(volatile char *)page = 'O';
-    print(console, (const char *)page);
+    xous_print(console, (const char *)page);
     return 0;
 }

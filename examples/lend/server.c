@@ -1,18 +1,25 @@
 /* Fills each page that is lent to it, and gives it back. */
-#include "xous.h"
+#include "checked.h"
 
 int main(void)
 {
-    struct identifier name = {{'f', 'i', 'l', 'l'}};
+    struct xous_identifier name = XOUS_SERVER("fill");
+    xous_word connection;
 
-    create_server_with_address(name);
+    xous_need(xous_make_server(name, &connection));
     for (;;) {
-        struct reply message = receive_message(name);
-        char *page = (char *)message.word[ADDRESS];
+        struct xous_message message;
+
+        xous_need(xous_take_message(name, &message));
+        if (message.kind != XOUS_MUTABLE_LEND) {
+            xous_need(xous_dismiss(&message));
+            continue;
+        }
+        char *page = (char *)xous_pages_of(&message);
 
         page[0] = 'o';
         page[1] = 'k';
         page[2] = '\n';
-        return_memory(message.word[TOKEN], message.word[ADDRESS], message.word[LENGTH], 0, 3);
+        xous_need(xous_give_back(&message, 3));
     }
 }

@@ -4,13 +4,13 @@
 
 int main(void)
 {
-    struct log log;
+    struct xous_log log;
 
-    need(open_log(&log));
-    for (word line = 1; line <= 3; line++) {
-        need(print_log(&log, "first: line "));
-        need(print_log(&log, decimal(line).text));
-        need(print_log(&log, "\n"));
+    xous_need(xous_open_log(&log));
+    for (xous_word line = 1; line <= 3; line++) {
+        xous_need(xous_print_log(&log, "first: line "));
+        xous_need(xous_print_log(&log, xous_decimal(line).text));
+        xous_need(xous_print_log(&log, "\n"));
     }
     return 0;
 }

@@ -4,17 +4,17 @@
 
 int main(void)
 {
-    struct log log;
+    struct xous_log log;
     volatile char *console;
 
-    need(open_log(&log));
+    xous_need(xous_open_log(&log));
 
-    enum error error = open_console(&console);
+    enum xous_error error = xous_open_console(&console);
 
-    if (error == NO_ERROR)
+    if (error == XOUS_NO_ERROR)
         return 1;
-    need(print_log(&log, "second: the console is refused with error "));
-    need(print_log(&log, decimal(error).text));
-    need(print_log(&log, "\n"));
+    xous_need(xous_print_log(&log, "second: the console is refused with error "));
+    xous_need(xous_print_log(&log, xous_decimal(error).text));
+    xous_need(xous_print_log(&log, "\n"));
     return 0;
 }

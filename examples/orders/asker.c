@@ -3,7 +3,7 @@
 
 int main(void)
 {
-    struct identifier front = {{'f'}};
+    struct xous_identifier front = XOUS_SERVER("f");
 
-    return send_message(connect(front).word[1], BLOCKING_SCALAR, 1, 21, 0, 0, 0).word[1];
+    return xous_send_message(xous_connect(front).word[1], XOUS_BLOCKING_SCALAR, 1, 21, 0, 0, 0).word[1];
 }

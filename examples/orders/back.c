@@ -3,12 +3,12 @@
 
 int main(void)
 {
-    struct identifier own = {{'b'}};
+    struct xous_identifier own = XOUS_SERVER("b");
 
-    create_server_with_address(own);
+    xous_create_server_with_address(own);
     for (;;) {
-        struct reply message = receive_message(own);
+        struct xous_reply message = xous_receive_message(own);
 
-        return_scalar1(message.word[TOKEN], 2 * message.word[ARGUMENT]);
+        xous_return_scalar1(message.word[XOUS_TOKEN], 2 * message.word[XOUS_ARGUMENT]);
     }
 }

@@ -3,16 +3,17 @@
 
 int main(void)
 {
-    struct identifier own = {{'f'}}, others = {{'b'}};
+    struct xous_identifier own = XOUS_SERVER("f"), others = XOUS_SERVER("b");
 
-    create_server_with_address(own);
-    word other = connect(others).word[1];
+    xous_create_server_with_address(own);
+    xous_word other = xous_connect(others).word[1];
 
     for (;;) {
-        struct reply message = receive_message(own);
-        struct reply answer = send_message(other, BLOCKING_SCALAR, 1, message.word[ARGUMENT], 0, 0, 0);
+        struct xous_reply message = xous_receive_message(own);
+        xous_word number = message.word[XOUS_ARGUMENT];
+        struct xous_reply answer = xous_send_message(other, XOUS_BLOCKING_SCALAR, 1, number, 0, 0, 0);
 
-        if (answer.word[0] == SCALAR1)
-            return_scalar1(message.word[TOKEN], answer.word[1]);
+        if (answer.word[0] == XOUS_SCALAR1)
+            xous_return_scalar1(message.word[XOUS_TOKEN], answer.word[1]);
     }
 }

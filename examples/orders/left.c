@@ -1,3 +1,3 @@
-#define OWN 'l'
-#define OTHERS 'r'
+#define OWN "l"
+#define OTHERS "r"
 #include "lender.h"

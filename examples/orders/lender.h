@@ -5,18 +5,18 @@ enum request { GO = 1, FILL = 2 };
 
 int main(void)
 {
-    struct identifier own = {{OWN}}, others = {{OTHERS}};
+    struct xous_identifier own = XOUS_SERVER(OWN), others = XOUS_SERVER(OTHERS);
 
-    create_server_with_address(own);
-    word page = map_memory(0, 0, PAGE_SIZE, R | W).word[1];
-    word other = connect(others).word[1];
+    xous_create_server_with_address(own);
+    xous_word page = xous_map_memory(0, 0, XOUS_PAGE_SIZE, XOUS_R | XOUS_W).word[1];
+    xous_word other = xous_connect(others).word[1];
 
     for (;;) {
-        struct reply message = receive_message(own);
+        struct xous_reply message = xous_receive_message(own);
 
-        if (message.word[ID] == GO)
-            send_message(other, MUTABLE_LEND, FILL, page, PAGE_SIZE, 0, 0);
+        if (message.word[XOUS_ID] == GO)
+            xous_send_message(other, XOUS_MUTABLE_LEND, FILL, page, XOUS_PAGE_SIZE, 0, 0);
         else
-            return_memory(message.word[TOKEN], message.word[ADDRESS], message.word[LENGTH], 0, 0);
+            xous_return_memory(message.word[XOUS_TOKEN], message.word[XOUS_ADDRESS], message.word[XOUS_LENGTH], 0, 0);
     }
 }

@@ -1,3 +1,3 @@
-#define OWN 'r'
-#define OTHERS 'l'
+#define OWN "r"
+#define OTHERS "l"
 #include "lender.h"

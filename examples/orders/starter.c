@@ -3,9 +3,9 @@
 
 int main(void)
 {
-    struct identifier left = {{'l'}}, right = {{'r'}};
+    struct xous_identifier left = XOUS_SERVER("l"), right = XOUS_SERVER("r");
 
-    send_message(connect(left).word[1], SCALAR, 1, 0, 0, 0, 0);
-    send_message(connect(right).word[1], SCALAR, 1, 0, 0, 0, 0);
+    xous_send_message(xous_connect(left).word[1], XOUS_SCALAR, 1, 0, 0, 0, 0);
+    xous_send_message(xous_connect(right).word[1], XOUS_SCALAR, 1, 0, 0, 0, 0);
     return 0;
 }

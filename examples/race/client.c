@@ -3,10 +3,10 @@
 
 int main(void)
 {
-    struct identifier name = {{'r', 'a', 'c', 'e'}};
-    struct reply found = try_connect(name);
+    struct xous_identifier name = XOUS_SERVER("race");
+    struct xous_reply found = xous_try_connect(name);
 
-    if (found.word[0] == ERROR)
+    if (found.word[0] == XOUS_ERROR)
         return 0;
-    return send_message(found.word[1], BLOCKING_SCALAR, 1, 21, 0, 0, 0).word[1];
+    return xous_send_message(found.word[1], XOUS_BLOCKING_SCALAR, 1, 21, 0, 0, 0).word[1];
 }

@@ -3,12 +3,12 @@
 
 int main(void)
 {
-    struct identifier name = {{'r', 'a', 'c', 'e'}};
+    struct xous_identifier name = XOUS_SERVER("race");
 
-    create_server_with_address(name);
+    xous_create_server_with_address(name);
     for (;;) {
-        struct reply message = receive_message(name);
+        struct xous_reply message = xous_receive_message(name);
 
-        return_scalar1(message.word[TOKEN], 2 * message.word[ARGUMENT]);
+        xous_return_scalar1(message.word[XOUS_TOKEN], 2 * message.word[XOUS_ARGUMENT]);
     }
 }

@@ -1,18 +1,21 @@
 /* Adds 30 and 12 to the server's count, asks for it, and ends with it as the exit word. */
-#include "xous.h"
+#include "counter.h"
 
 int main(void)
 {
-    struct identifier name = {{'c', 'o', 'u', 'n'}};
-    volatile char *console = (volatile char *)map_console().word[1];
-    word server = connect(name).word[1];
+    volatile char *console;
+    xous_word server, digits[2], count;
 
-    send_message(server, SCALAR, 1, 30, 0, 0, 0);
-    send_message(server, SCALAR, 1, 12, 0, 0, 0);
+    xous_need(xous_open_console(&console));
+    xous_need(xous_find_server(COUNTER, &server));
+    xous_need(xous_tell(server, ADD, 30, 0));
+    xous_need(xous_tell(server, ADD, 12, 0));
 
-    struct reply digits = send_message(server, BLOCKING_SCALAR, 3, 0, 0, 0, 0);
-    *console = '0' + digits.word[1];
-    *console = '0' + digits.word[2];
+    xous_need(xous_ask_two(server, GET_DIGITS, 0, 0, digits));
+    *console = '0' + digits[0];
+    *console = '0' + digits[1];
     *console = '\n';
-    return send_message(server, BLOCKING_SCALAR, 2, 0, 0, 0, 0).word[1];
+
+    xous_need(xous_ask(server, GET, 0, 0, &count));
+    return count;
 }

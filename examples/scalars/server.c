@@ -1,20 +1,26 @@
-/* A server that counts: 1 adds to the count, 2 asks for it, 3 asks for it in two parts. */
-#include "xous.h"
+/* A server that counts. */
+#include "counter.h"
+
+static enum xous_error serve(struct xous_message *message, xous_word *count)
+{
+    if (message->kind == XOUS_SCALAR && message->id == ADD)
+        *count += message->word[0];
+    else if (message->kind == XOUS_BLOCKING_SCALAR && message->id == GET)
+        return xous_answer(message, *count);
+    else if (message->kind == XOUS_BLOCKING_SCALAR && message->id == GET_DIGITS)
+        return xous_answer_two(message, *count / 10, *count % 10);
+    return xous_dismiss(message);
+}
 
 int main(void)
 {
-    struct identifier name = {{'c', 'o', 'u', 'n'}};
-    word count = 0;
+    xous_word connection, count = 0;
 
-    create_server_with_address(name);
+    xous_need(xous_make_server(COUNTER, &connection));
     for (;;) {
-        struct reply message = receive_message(name);
+        struct xous_message message;
 
-        if (message.word[ID] == 1)
-            count += message.word[ARGUMENT];
-        else if (message.word[ID] == 2)
-            return_scalar1(message.word[TOKEN], count);
-        else if (message.word[ID] == 3)
-            return_scalar2(message.word[TOKEN], count / 10, count % 10);
+        xous_need(xous_take_message(COUNTER, &message));
+        xous_need(serve(&message, &count));
     }
 }

@@ -3,34 +3,34 @@
 
 #define STACK 4096u
 
-static word write_letters(volatile char *console, word letter)
+static xous_word write_letters(volatile char *console, xous_word letter)
 {
     for (int i = 0; i < 3; i++) {
         *console = letter;
-        yield();
+        xous_yield();
     }
     return letter;
 }
 
-static word start(word stack, volatile char *console, word letter)
+static xous_word start(xous_word stack, volatile char *console, xous_word letter)
 {
-    return create_thread((word)write_letters, stack, (word)console, letter, 0, 0).word[1];
+    return xous_create_thread((xous_word)write_letters, stack, (xous_word)console, letter, 0, 0).word[1];
 }
 
 /* What the thread returned, or a point where it ended before it was joined: then the call is refused. */
-static word join(word thread)
+static xous_word join(xous_word thread)
 {
-    struct reply joined = join_thread(thread);
+    struct xous_reply joined = xous_join_thread(thread);
 
-    return joined.word[0] == SCALAR1 ? joined.word[1] : '.';
+    return joined.word[0] == XOUS_SCALAR1 ? joined.word[1] : '.';
 }
 
 int main(void)
 {
-    volatile char *console = (volatile char *)map_console().word[1];
-    word heap = increase_heap(2 * STACK).word[1];
-    word a = start(heap + STACK, console, 'a');
-    word b = start(heap + 2 * STACK, console, 'b');
+    volatile char *console = (volatile char *)xous_map_console().word[1];
+    xous_word heap = xous_increase_heap(2 * STACK).word[1];
+    xous_word a = start(heap + STACK, console, 'a');
+    xous_word b = start(heap + 2 * STACK, console, 'b');
 
     *console = join(a);
     *console = join(b);

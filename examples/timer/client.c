@@ -6,16 +6,16 @@ enum { NOW = 1, SLEEP = 2 };
 
 int main(void)
 {
-    struct identifier name = {{'t', 'i', 'm', 'e'}};
-    struct log log;
-    word timer, before, after;
+    struct xous_identifier name = XOUS_SERVER("time");
+    struct xous_log log;
+    xous_word timer, before, after;
 
-    need(open_log(&log));
-    need(find_server(name, &timer));
-    need(ask(timer, NOW, 0, 0, &before));
-    need(ask(timer, SLEEP, 2000, 0, &after));
-    need(print_log(&log, "slept "));
-    need(print_log(&log, decimal(after - before).text));
-    need(print_log(&log, " steps\n"));
+    xous_need(xous_open_log(&log));
+    xous_need(xous_find_server(name, &timer));
+    xous_need(xous_ask(timer, NOW, 0, 0, &before));
+    xous_need(xous_ask(timer, SLEEP, 2000, 0, &after));
+    xous_need(xous_print_log(&log, "slept "));
+    xous_need(xous_print_log(&log, xous_decimal(after - before).text));
+    xous_need(xous_print_log(&log, " steps\n"));
     return 0;
 }

@@ -11,14 +11,14 @@ enum { NOW = 1, SLEEP = 2, RAISED = 3 };
 
 enum { CLOCK, COMPARE }; /* words of the timer's page */
 
-static volatile word *const timer = (volatile word *)TIMER;
+static volatile xous_word *const timer = (volatile xous_word *)XOUS_TIMER;
 
 static struct sleeper {
-    struct message message;
-    word due; /* NEVER where there is no sleeper */
+    struct xous_message message;
+    xous_word due; /* NEVER where there is no sleeper */
 } sleepers[SLEEPERS];
 
-static word pass_time(word unused)
+static xous_word pass_time(xous_word unused)
 {
     for (;;) /* without a call, which would be a line of the transcript; each tick ends its turn */
         __asm__ volatile("");
@@ -26,20 +26,20 @@ static word pass_time(word unused)
 }
 
 /* The handler, as thread 1, may not wait; the server's loop does the work. */
-static void tell_server(word number, word server)
+static void tell_server(xous_word number, xous_word server)
 {
     (void)number;
-    need(try_tell(server, RAISED, 0, 0));
+    xous_need(xous_try_tell(server, RAISED, 0, 0));
 }
 
 /* Answers who has slept enough; gives when the next one is due. */
-static word answer_sleepers(void)
+static xous_word answer_sleepers(void)
 {
-    word next = NEVER;
+    xous_word next = NEVER;
 
     for (struct sleeper *each = sleepers; each < sleepers + SLEEPERS; each++) {
         if (each->due <= timer[CLOCK]) {
-            need(answer(&each->message, timer[CLOCK]));
+            xous_need(xous_answer(&each->message, timer[CLOCK]));
             each->due = NEVER;
         }
         if (each->due < next)
@@ -51,7 +51,7 @@ static word answer_sleepers(void)
 /* Arms the timer for who is next. Where the clock has passed that step before it was armed for it, it isn't raised. */
 static void wake(void)
 {
-    word next;
+    xous_word next;
 
     do {
         next = answer_sleepers();
@@ -61,35 +61,35 @@ static void wake(void)
     } while (timer[CLOCK] >= next);
 }
 
-static void take_sleeper(struct message *message)
+static void take_sleeper(struct xous_message *message)
 {
-    for (word place = 0; place < SLEEPERS; place++)
+    for (xous_word place = 0; place < SLEEPERS; place++)
         if (sleepers[place].due == NEVER) {
             sleepers[place] = (struct sleeper){*message, timer[CLOCK] + message->word[0]};
             return;
         }
-    need(answer(message, 0)); /* no room: answered at once, and not with a time */
+    xous_need(xous_answer(message, 0)); /* no room: answered at once, and not with a time */
 }
 
 int main(void)
 {
-    struct identifier name = {{'t', 'i', 'm', 'e'}};
-    word server, thread;
+    struct xous_identifier name = XOUS_SERVER("time");
+    xous_word server, thread;
     char *stack;
 
-    for (word place = 0; place < SLEEPERS; place++)
+    for (xous_word place = 0; place < SLEEPERS; place++)
         sleepers[place].due = NEVER;
-    need(grow_heap(PAGE_SIZE, &stack));
-    need(make_server(name, &server));
-    need(handle_interrupt(TIMER_INTERRUPT, tell_server, server));
-    need(start_thread(pass_time, stack + PAGE_SIZE, 0, &thread));
+    xous_need(xous_grow_heap(XOUS_PAGE_SIZE, &stack));
+    xous_need(xous_make_server(name, &server));
+    xous_need(xous_handle_interrupt(XOUS_TIMER_INTERRUPT, tell_server, server));
+    xous_need(xous_start_thread(pass_time, stack + XOUS_PAGE_SIZE, 0, &thread));
     for (;;) {
-        struct message message;
+        struct xous_message message;
 
-        need(take_message(name, &message));
-        if (message.id == NOW && message.kind == BLOCKING_SCALAR)
-            need(answer(&message, timer[CLOCK]));
-        if (message.id == SLEEP && message.kind == BLOCKING_SCALAR)
+        xous_need(xous_take_message(name, &message));
+        if (message.id == NOW && message.kind == XOUS_BLOCKING_SCALAR)
+            xous_need(xous_answer(&message, timer[CLOCK]));
+        if (message.id == SLEEP && message.kind == XOUS_BLOCKING_SCALAR)
             take_sleeper(&message);
         wake();
     }

@@ -18,7 +18,7 @@ from xous.states import reach, state, telling
 from .frame import COMPILER, EXAMPLES, GDB, TOOLS, Case, need, need_program
 
 # Two threads add to one word without a lock. Both lines that are looked at are found by their comments.
-LOST = """#include "xous.h"
+LOST = """#include "xous_short.h"
 
 static volatile word total;
 
@@ -42,7 +42,7 @@ int main(void)
 """
 
 # Stores to other words of the page again and again, and once to the one that is watched.
-BUSY = """#include "xous.h"
+BUSY = """#include "xous_short.h"
 
 static volatile word busy[8], seldom;
 
@@ -277,7 +277,7 @@ def race_checks(bench):
     yield "of 72, 2.2 acts next" in answers[4], "race: the thread that acts"
     yield "step 43: 2.2 calls SendMessage" in answers[6], "race: a stop before a call of the transcript"
     backtrace = re.findall(r"#\d+ +(?:0x\w+ in )?(\w+) \(", answers[7])
-    yield backtrace[:3] == ["xous_call", "send_message", "main"], f"race: the backtrace, which is {backtrace}"
+    yield backtrace[:3] == ["xous_call", "xous_send_message", "main"], f"race: the backtrace, which is {backtrace}"
     yield re.search(r"client.*hit Breakpoint", answers[8]), "race: back at the client's main"
     yield re.search(r"server.*hit Breakpoint", answers[9]), "race: back at the server's main"
     yield "No more reverse-execution history" in answers[10], "race: the start of the history"

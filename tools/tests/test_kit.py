@@ -5,7 +5,7 @@ import subprocess
 
 from .frame import COMPILER, GIVEN, TOOLS, Case, need
 
-HEAD = '#include "log.h"\n#include "memory.h"\n#include "text.h"\n'
+HEAD = '#include "xous_short.h"\n#include "memory.h"\n'
 CONSOLE = "volatile char *console; need(open_console(&console));"
 
 # The body of main, what it writes to the console, and the beginning of a line of its transcript.
@@ -37,7 +37,7 @@ PLAYED = {
 EARLY = "static volatile int early; __attribute__((KIND)) static void set(void) { early = 7; }"
 # What stands before main, the body of main, and a part of what is said of it.
 REFUSED = {
-    "unlooked": ("", "volatile char *console; open_console(&console);", "ignoring return value of 'open_console'"),
+    "unlooked": ("", "volatile char *console; open_console(&console);", "ignoring return value of 'xous_open_console'"),
     "early": (EARLY.replace("KIND", "constructor"), "return early;", "-DCONSTRUCTORS"),
     "late": (EARLY.replace("KIND", "destructor"), "return early;", "runs destructors"),
 }

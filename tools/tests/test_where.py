@@ -4,7 +4,7 @@ from . import test_kit as kit
 from .frame import COMPILER, Case, need, need_program
 
 TOOL = kit.TOOLS / "xous-where"
-SERVER = """#include "checked.h"
+SERVER = """#include "xous_short.h"
 
 word count = 7;
 word rows[3] = {1, 2, 3};
@@ -29,7 +29,7 @@ int main(void)
     return 0;
 }
 """
-CLIENT = """#include "checked.h"
+CLIENT = """#include "xous_short.h"
 
 int main(void)
 {
@@ -42,7 +42,7 @@ int main(void)
     return 0;
 }
 """
-DEEP = """#include "checked.h"
+DEEP = """#include "xous_short.h"
 
 static __attribute__((noinline)) word deep(word count)
 {

@@ -7,9 +7,9 @@ int main(void)
 {
     volatile char *console;
 
-    need(open_console(&console));
-    print(console, "hello from NAME, six times seven is ");
-    print(console, decimal(6 * 7).text);
-    print(console, "\n");
+    xous_need(xous_open_console(&console));
+    xous_print(console, "hello from NAME, six times seven is ");
+    xous_print(console, xous_decimal(6 * 7).text);
+    xous_print(console, "\n");
     return 0;
 }

@@ -4,6 +4,7 @@
 # those between xous_kit and xous_kit_end; std never uses gp. The rows are those of the table in docs/std.md.
 
     .set MAP_MEMORY, 2
+    .set YIELD, 3
     .set UPDATE_MEMORY_FLAGS, 12
     .set SEND_MESSAGE, 16
     .set CONNECT, 17
@@ -50,6 +51,7 @@ xous_stack_size:    .word 0x40000   # bytes of the first thread's stack
 # What the bridge knows of its process. A connection is never 0.
 ticktimer:          .word 0         # the connection to the ticktimer, or 0
 name_server:        .word 0         # the connection to the name server, or 0
+log_server:         .word 0         # the connection to the log server, or 0
 process:            .word 0         # the pid, where there is a connection to the ticktimer
 ends:               .fill 32, 4, 0  # how many threads have ended, by tid
 
@@ -194,8 +196,24 @@ send:
     lw a7, process
     j call_and_leave
 
-# Row 9: the name server answers an identifier, and the connection to it is put in its place.
+# Row 17: of std the log server gets scalars with the text of a panic alone. Each ends the turn, so that the log writes
+# it before the unwinding begins, and has room for the next one.
 send_elsewhere:
+    lw t0, log_server
+    bne a1, t0, send_names
+    li t0, SCALAR
+    bne a2, t0, call_and_leave
+    ecall
+    mv t0, a0
+    mv t1, a1
+    li a0, YIELD
+    ecall
+    mv a0, t0
+    mv a1, t1
+    j leave
+
+# Row 9: the name server answers an identifier, and the connection to it is put in its place.
+send_names:
     lw t0, name_server
     bne a1, t0, call_and_leave
     li t0, MUTABLE_LEND
@@ -228,10 +246,13 @@ send_elsewhere:
     li a4, 0
     j leave
 
-# Connections to the ticktimer (row 8) and to the name server (row 9) are remembered; the bridge asks for the pid once.
+# Connections to the ticktimer (row 8), the name server (row 9) and the log server (row 17) are remembered; the bridge
+# asks for the pid once.
 connect:
     sw zero, 12(sp)                 # the word that remembers, or 0
-    li t0, 0x72657672               # "rver", the last word of both
+    li t0, 0x20726576               # "ver ", the last word of the log server's name
+    beq a4, t0, connect_log
+    li t0, 0x72657672               # "rver", the last word of both others
     bne a4, t0, connect_now
     la t1, ticktimer
     li t0, 0x6b636974               # "ticktimer-server"
@@ -239,6 +260,15 @@ connect:
     li t0, 0x656d6974
     bne a2, t0, connect_now
     li t0, 0x65732d72
+    bne a3, t0, connect_now
+    j connect_known
+connect_log:
+    la t1, log_server
+    li t0, 0x73756f78               # "xous-log-server "
+    bne a1, t0, connect_now
+    li t0, 0x676f6c2d
+    bne a2, t0, connect_now
+    li t0, 0x7265732d
     bne a3, t0, connect_now
     j connect_known
 connect_names:

@@ -15,6 +15,7 @@ from ..files import MOST_ELF_BYTES, read_whole
 from ..images.layout import EXECUTABLE, Process
 from ..images.named import plain
 from ..images.reading import bytes_of_sections
+from .demangle import readable
 from .elf import elf_library, read_program, refuse_other_files, symbol_rows
 from .lines import Lines, Spot
 
@@ -41,7 +42,9 @@ class Program:
             elf = elf_file(file)
             if elf.elfclass != 32 or not elf.little_endian:
                 raise Refusal(f"{path}: not a 32-bit RISC-V file; give the program that is in the image")
-            self.symbols = sorted(symbols_of(elf))
+            rows = sorted(symbols_of(elf))
+            names = readable(name for _, _, name in rows)
+            self.symbols = [(start, size, names.get(name, name)) for start, size, name in rows]
             has_lines = elf.get_section_by_name(".debug_line") is not None
         except errors as fault:
             raise Refusal(f"{path}: a broken ELF file ({fault or 'it is too short'}); give a linked program") from None

@@ -1,7 +1,6 @@
 //! One system call: eight words there and back.
 
-use crate::{Error, Result};
-use std::arch::asm;
+use crate::Result;
 
 pub(crate) const MAP_MEMORY: u32 = 2;
 pub(crate) const CLAIM_INTERRUPT: u32 = 5;
@@ -20,18 +19,28 @@ pub(crate) const DESTROY_SERVER: u32 = 41;
 
 const ERROR: u32 = 1;
 
-/// The reply to a call, or its refusal.
+/// The reply to a call, or its refusal. Away from the machine every call is refused by UnhandledSyscall.
 ///
 /// # Safety
 ///
-/// What the call does to the memory of this process, other than that no page of it is given away or changed, has to
-/// fit what Rust knows of that memory.
+/// A call can read and write memory of this process, and take pages away or bring some. Of this, what the call does has
+/// to be allowed to code that Rust can't see: it may reach the memory whose address was exposed, as all memory of `Pages`
+/// is, and no memory that a reference has for itself meanwhile; and no reference may stay to pages that go.
 pub(crate) unsafe fn call(words: [u32; 8]) -> Result<[u32; 8]> {
+    // SAFETY: as the caller says.
+    let reply = unsafe { trap(words) };
+    if reply[0] == ERROR { Err((reply[1] as usize).into()) } else { Ok(reply) }
+}
+
+/// ECALL, with a0 to a7 there and back.
+#[cfg(target_os = "xous")]
+unsafe fn trap(words: [u32; 8]) -> [u32; 8] {
     let mut reply = words;
     let [a0, a1, a2, a3, a4, a5, a6, a7] = &mut reply;
-    // SAFETY: a call changes a0 to a7 and, as the caller vouches for, memory.
+    // SAFETY: the block says that it changes a0 to a7. It isn't `nomem`, so the compiler takes it to read and write any
+    // memory whose address is exposed, which is what a call may do.
     unsafe {
-        asm!(
+        std::arch::asm!(
             "ecall",
             inlateout("a0") *a0,
             inlateout("a1") *a1,
@@ -43,7 +52,13 @@ pub(crate) unsafe fn call(words: [u32; 8]) -> Result<[u32; 8]> {
             inlateout("a7") *a7,
         );
     }
-    if reply[0] == ERROR { Err((reply[1] as usize).into()) } else { Ok(reply) }
+    reply
+}
+
+/// There is no kernel here that knows the call.
+#[cfg(not(target_os = "xous"))]
+unsafe fn trap(_: [u32; 8]) -> [u32; 8] {
+    [ERROR, crate::Error::UnhandledSyscall as u32, 0, 0, 0, 0, 0, 0]
 }
 
 /// The reply to a call that names a server.
@@ -58,5 +73,5 @@ pub(crate) unsafe fn call_server(number: u32, [s0, s1, s2, s3]: [u32; 4]) -> Res
 
 /// Says that a reply isn't one that this call has: the kernel is another one.
 pub(crate) fn unknown_reply<T>() -> Result<T> {
-    Err(Error::InternalError)
+    Err(crate::Error::InternalError)
 }

@@ -8,7 +8,7 @@ use crate::{Result, Server};
 use std::marker::PhantomData;
 use std::mem::ManuallyDrop;
 use std::ops::{Deref, DerefMut};
-use std::slice;
+use std::{ptr, slice};
 
 const MESSAGE: u32 = 9;
 
@@ -82,14 +82,14 @@ impl BlockingScalar<'_> {
 
     fn return_scalar(self, [number, first, second]: [u32; 3]) -> Result<()> {
         let token = ManuallyDrop::new(self).token;
-        // SAFETY: no memory changes.
+        // SAFETY: the call reads and writes no memory.
         unsafe { call([number, token, first, second, 0, 0, 0, 0]) }.map(|_| ())
     }
 }
 
 impl Drop for BlockingScalar<'_> {
     fn drop(&mut self) {
-        // SAFETY: no memory changes.
+        // SAFETY: the call reads and writes no memory.
         let _ = unsafe { call([RETURN_SCALAR_1, self.token, 0, 0, 0, 0, 0, 0]) };
     }
 }
@@ -105,8 +105,10 @@ struct Memory<'server> {
 
 impl Memory<'_> {
     fn bytes(&self) -> &[u8] {
-        // SAFETY: the pages are here until they are returned, and nobody else can write to them.
-        unsafe { slice::from_raw_parts(self.address as *const u8, self.length) }
+        // SAFETY: provenance: the pages are the kernel's, and their address is exposed. They are here until they are
+        // returned, which takes `self`. Aliasing: `self` is borrowed shared, the sender waits, and its other threads can
+        // read lent pages, but not write to them.
+        unsafe { slice::from_raw_parts(ptr::with_exposed_provenance(self.address), self.length) }
     }
 
     fn give_back(self, offset: u32, valid: u32) -> Result<()> {
@@ -116,7 +118,7 @@ impl Memory<'_> {
     /// Ends the loan; nothing may refer to the pages any more.
     fn return_memory(&self, offset: u32, valid: u32) -> Result<()> {
         let (address, length) = (self.address as u32, self.length as u32);
-        // SAFETY: the pages go, and `self` was all that referred to them.
+        // SAFETY: the pages go, and no reference to them is left, since each borrows `self`, which nobody uses after this.
         unsafe { call([RETURN_MEMORY, self.token, address, length, offset, valid, 0, 0]) }.map(|_| ())
     }
 }
@@ -177,8 +179,10 @@ impl Deref for LentMut<'_> {
 
 impl DerefMut for LentMut<'_> {
     fn deref_mut(&mut self) -> &mut [u8] {
-        // SAFETY: the pages are here until they are returned, and nobody else can reach them.
-        unsafe { slice::from_raw_parts_mut(self.memory.address as *mut u8, self.memory.length) }
+        let Memory { address, length, .. } = self.memory;
+        // SAFETY: provenance as in `Memory::bytes`; a page that is lent mutably has the right to write. Aliasing: `self` is
+        // borrowed exclusively, and the sender's process can't reach the pages until they are back.
+        unsafe { slice::from_raw_parts_mut(ptr::with_exposed_provenance_mut(address), length) }
     }
 }
 
@@ -197,14 +201,15 @@ impl Deref for Moved {
     type Target = [u8];
 
     fn deref(&self) -> &[u8] {
-        // SAFETY: the pages are this process's, and nothing else refers to them.
-        unsafe { slice::from_raw_parts(self.address as *const u8, self.length) }
+        // SAFETY: provenance: the pages are the kernel's, and their address is exposed. They are this process's alone now.
+        // Aliasing: `self` is borrowed shared, and nothing writes to them.
+        unsafe { slice::from_raw_parts(ptr::with_exposed_provenance(self.address), self.length) }
     }
 }
 
 impl Drop for Moved {
     fn drop(&mut self) {
-        // SAFETY: nothing refers to the pages any more.
+        // SAFETY: the pages go, and no reference to them is left, since each borrows `self`.
         let _ = unsafe { call([UNMAP_MEMORY, self.address as u32, self.length as u32, 0, 0, 0, 0, 0]) };
     }
 }

@@ -4,7 +4,7 @@ use crate::Result;
 use crate::call::{MAP_MEMORY, UNMAP_MEMORY, call};
 use std::mem::ManuallyDrop;
 use std::ops::{Deref, DerefMut};
-use std::slice;
+use std::{ptr, slice};
 
 /// The bytes of a page.
 pub const PAGE_SIZE: usize = 4096;
@@ -22,7 +22,7 @@ impl Pages {
     /// So many new pages of zeros (MapMemory).
     pub fn new(count: usize) -> Result<Pages> {
         let length = count.saturating_mul(PAGE_SIZE);
-        // SAFETY: the pages are new.
+        // SAFETY: the pages are new, so that no reference to them is there.
         let reply = unsafe { call([MAP_MEMORY, 0, 0, length as u32, READ_WRITE, 0, 0, 0]) }?;
         Ok(Pages { address: reply[1] as usize, length })
     }
@@ -36,6 +36,11 @@ impl Pages {
         Pages { address, length }
     }
 
+    /// Address and length of the pages, for a call that lends them. No reference to them is made.
+    pub(crate) fn span(&self) -> (usize, usize) {
+        (self.address, self.length)
+    }
+
     /// Address and length of the pages, which aren't unmapped any more.
     pub(crate) fn into_parts(self) -> (usize, usize) {
         let kept = ManuallyDrop::new(self);
@@ -47,30 +52,35 @@ impl Deref for Pages {
     type Target = [u8];
 
     fn deref(&self) -> &[u8] {
-        // SAFETY: the pages are there as long as `self` is.
-        unsafe { slice::from_raw_parts(self.address as *const u8, self.length) }
+        // SAFETY: provenance: the pages are the kernel's, and their address is exposed. They are there as long as `self`
+        // is, and each byte has a value. Aliasing: `self` is borrowed shared, so `deref_mut` and `lend_mut`, which take it
+        // exclusively, can't write meanwhile; a lend that the server reads is beside a shared reference.
+        unsafe { slice::from_raw_parts(ptr::with_exposed_provenance(self.address), self.length) }
     }
 }
 
 impl DerefMut for Pages {
     fn deref_mut(&mut self) -> &mut [u8] {
-        // SAFETY: as above, and nothing else refers to them.
-        unsafe { slice::from_raw_parts_mut(self.address as *mut u8, self.length) }
+        // SAFETY: provenance as in `deref`; a page of `Pages` has the right to write. Aliasing: `self` is borrowed
+        // exclusively, and `Pages` is all that refers to its pages.
+        unsafe { slice::from_raw_parts_mut(ptr::with_exposed_provenance_mut(self.address), self.length) }
     }
 }
 
 impl Drop for Pages {
     fn drop(&mut self) {
-        // SAFETY: nothing refers to the pages any more. They can't be on loan: a loan holds a reference.
+        // SAFETY: the pages go, and no reference to them is left, since each borrows `self`. They can't be on loan: a
+        // lend borrows `self` until they are back.
         let _ = unsafe { call([UNMAP_MEMORY, self.address as u32, self.length as u32, 0, 0, 0, 0, 0]) };
     }
 }
 
 /// The console, as a function that writes a byte. One process at a time can have it.
 pub fn console() -> Result<impl FnMut(u8)> {
-    // SAFETY: the page is new to this process.
+    // SAFETY: the page is new to this process, so that no reference to it is there.
     let reply = unsafe { call([MAP_MEMORY, CONSOLE, 0, PAGE_SIZE as u32, READ_WRITE, 0, 0, 0]) }?;
-    let place = reply[1] as usize as *mut u8;
-    // SAFETY: the console's page is mapped and stays so; its first byte takes what is written.
+    let place = ptr::with_exposed_provenance_mut::<u8>(reply[1] as usize);
+    // SAFETY: provenance: the console's page is the kernel's, and stays mapped; its first byte takes what is written.
+    // Aliasing: no reference to it is ever made, and a volatile store through a raw pointer needs none.
     Ok(move |byte| unsafe { place.write_volatile(byte) })
 }

@@ -36,7 +36,7 @@ pub struct Server {
 impl Server {
     /// A new server, known by `identifier` (CreateServerWithAddress).
     pub fn create(identifier: Identifier) -> Result<Server> {
-        // SAFETY: no memory changes.
+        // SAFETY: the call reads and writes no memory.
         let reply = unsafe { call_server(CREATE_SERVER_WITH_ADDRESS, identifier.0) }?;
         Ok(Server { identifier, connection: Connection::from_number(reply[5]) })
     }
@@ -53,14 +53,14 @@ impl Server {
 
     /// The oldest message, which is waited for (ReceiveMessage).
     pub fn receive(&self) -> Result<Message<'_>> {
-        // SAFETY: pages come to places of this process that had none.
+        // SAFETY: pages come to places of this process that had none, so that no reference to them is there.
         let reply = unsafe { call_server(RECEIVE_MESSAGE, self.identifier.0) }?;
         Message::of(reply).map_or_else(unknown_reply, Ok)
     }
 
     /// The oldest message, or none where there is none (TryReceiveMessage).
     pub fn try_receive(&self) -> Result<Option<Message<'_>>> {
-        // SAFETY: as above.
+        // SAFETY: as in `receive`.
         let reply = unsafe { call_server(TRY_RECEIVE_MESSAGE, self.identifier.0) }?;
         Ok(Message::of(reply))
     }
@@ -68,7 +68,8 @@ impl Server {
 
 impl Drop for Server {
     fn drop(&mut self) {
-        // SAFETY: no message of it is there any more, since each borrows it; so nothing refers to pages that go.
+        // SAFETY: pages that are lent to the server go. Each message with such pages borrows it, so none is left, nor a
+        // reference to their pages.
         let _ = unsafe { call_server(DESTROY_SERVER, self.identifier.0) };
     }
 }
