@@ -14,8 +14,8 @@ TEMPLATE = ROOT / "examples" / "kit" / "new"
 USAGE = "xous-new FOLDER [--c | --rust]"
 DESCRIPTION = """Makes a folder with a program of your own: its source, a Makefile and a file of events.
 
-The program is named after the folder, which may lie anywhere and must not be there yet, or be empty. The Makefile names this
-checkout by its variable XOUS_CHECKOUT.
+The program is named after the folder, which may lie anywhere and must not be there yet, or be empty. The Makefile names the
+folder that has the kit by its variable XOUS_CHECKOUT.
 
 With --c or --rust it is a project with tests, in C or over Rust's std. `make expected` stores the transcript. `make test`
 compares each later run with it, and searches the orders of the threads. If a test fails, it names the event file and the two

@@ -21,9 +21,18 @@ ITEM = re.compile(r"  (\S.*?)(?:  +(\S.*)|$)").fullmatch
 STATUS = re.compile(r"  (\d+) +(.*)").fullmatch
 FAULT = re.compile(r"[A-Z]\w+ at \d+: ").match  # begins a line of its own
 SECTIONS = {"positional arguments": "ARGUMENTS", "options": "OPTIONS", "example": "EXAMPLES", "examples": "EXAMPLES"}
+# What a command reads in its environment, where its help names it.
 ENVIRONMENT = {
-    "XOUSIM": "The program that plays runs, where it isn't the one that was installed with the tools.",
-    "XOUS_DEBUG": "If it is set, a mistake of a tool itself is shown with where it happened.",
+    "XOUSIM": "The program that plays runs, if it isn't the one that was installed with the tools.",
+}
+DEBUG = ("XOUS_DEBUG", "If it is set, a mistake of a tool itself is shown with where it happened.")
+# Files by the words that stand for them in a synopsis, with the page that has their format.
+FILES = {
+    "IMAGE": ("A boot image; xous-image makes one.", "image"),
+    "EVENTS": ("Which threads run for how long, interrupts and kills: a text.", "output"),
+    "STATE": ("The state of a run; `xousim suspend` writes one.", "state"),
+    "STORE": ("Pages that aren't in RAM. It is made if it is missing, and filled with zeros.", "output"),
+    "TRANSCRIPT": ("What `xousim trace` writes.", "transcript"),
 }
 
 
@@ -225,6 +234,15 @@ def see_also(root: pathlib.Path, name: str, commands: list[str], text: str) -> I
     yield from (line for where in named for line in (".PP", plain(PAGES + where)))
 
 
+def files(text: str) -> Iterator[tuple[str, str]]:
+    """The files that a help names by a word, and the folders of a release."""
+    for word, (what, where) in FILES.items():
+        if re.search(rf"\b{word}\b", text):
+            yield word, f"{what} The format: docs/{where}.md."
+    yield PAGES, "The pages and the examples."
+    yield f"{SHARE}examples/kit/", "The kits for C and Rust."
+
+
 def page(root: pathlib.Path, name: str, commands: list[str], version: str, date: str) -> Iterator[str]:
     text = installed(help_of(root, name))
     said = Help(name, text)
@@ -243,10 +261,9 @@ def page(root: pathlib.Path, name: str, commands: list[str], version: str, date:
         raise Stale(f"{name} --help names no statuses")
     yield from (".SH EXIT STATUS", *said.lines("EXIT STATUS"))
     if name not in gate.PROGRAMS:
-        yield from (".SH ENVIRONMENT", *listed(ENVIRONMENT.items()))
-    yield ".SH FILES"
-    yield from (".TP", f"\\fB{plain(PAGES)}\\fR", "The pages and the examples.")
-    yield from (".TP", f"\\fB{SHARE}examples/kit/\\fR", "The kits for C and Rust.")
+        named = [(variable, what) for variable, what in ENVIRONMENT.items() if f"${variable}" in text]
+        yield from (".SH ENVIRONMENT", *listed([*named, DEBUG]))
+    yield from (".SH FILES", *listed(files(text)))
     if "EXAMPLES" not in said.sections:
         raise Stale(f"{name} --help has no example")
     yield from (".SH EXAMPLES", *said.lines("EXAMPLES"))
