@@ -1,4 +1,4 @@
-"""The program xousim: $XOUSIM, else the one that the launcher builds."""
+"""The program xousim: $XOUSIM, else that of the release, or the one that the launcher builds."""
 
 from __future__ import annotations
 
@@ -11,7 +11,9 @@ from ..errors import Refusal
 from ..files import why
 
 LAUNCHER = ROOT / "xousim"
+IS_CHECKOUT = (ROOT / "crates.txt").exists()
 BUILT = ROOT / "crates" / "xousim" / "out" / "xousim"
+INSTALLED = ROOT.parents[1] / "lib" / "xousim" / "xousim"  # by a release, which has no sources
 USAGE, CANT_START = 2, (126, 127)
 
 
@@ -22,6 +24,8 @@ def find_program() -> str:
         if os.path.isdir(given):
             raise Refusal(f"XOUSIM={given}: a folder; XOUSIM names the program, such as {LAUNCHER}")
         return given
+    if not IS_CHECKOUT:
+        return str(INSTALLED)
     status, last = launched()
     if status in CANT_START:
         raise Refusal(f"{LAUNCHER} built no program: {last}; or name one by the variable XOUSIM")
