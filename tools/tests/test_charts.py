@@ -72,7 +72,7 @@ STORIES = {
     "threads/expected": ((0, 0, 2, 1), [], 1, {chart.REFUSED: 1, "end": 2}),
     "threads/picked.expected": ((0, 0, 2, 2), [], 1, {"end": 2}),
     "scalars/expected": ((4, 2, 0, 0), [], 1, {}),
-    "lend/expected": ((1, 1, 0, 0), ["3.2 62-73", "2.2 62-73"], 1, {chart.TEXT: 1}),
+    "lend/expected": ((1, 1, 0, 0), ["3.2 81-96", "2.2 81-96"], 1, {chart.TEXT: 1}),
     "fault/expected": ((1, 0, 1, 0), ["3.2 75-77", "2.2 75-88"], 1, {"fault": 1}),
     "fault/early.expected": ((1, 1, 1, 0), ["3.2 80-91", "2.2 80-91"], 1, {"end": 1}),
     "forward/expected": ((2, 1, 0, 0), ["4.2 73-114", "2.2 73-92", "3.2 92-114"], 1, {chart.AGAIN: 1}),
@@ -103,9 +103,9 @@ def checks_of_stories():
         rows = Counter((mark.row, mark.thread) for mark in found.marks)
         yield max(rows.values()) == 1, f"{name}: two marks in one place"
     lend = example("lend/expected")
-    yield spans(lend, lend.waits) == ["2.2 23-62", "3.2 62-73", "2.2 83-end"], f"waits of lend: {spans(lend, lend.waits)}"
+    yield spans(lend, lend.waits) == ["2.2 33-81", "3.2 81-96", "2.2 106-end"], f"waits of lend: {spans(lend, lend.waits)}"
     labels = [wait.label for wait in lend.waits[:2]]
-    yield labels == ["waits for a message at 'fill'", "waits for the answer of 'fill'"], f"waits of lend: {labels}"
+    yield labels == ['waits for a message at "fill"', 'waits for the answer of "fill"'], f"waits of lend: {labels}"
     yield [mark.label for mark in lend.marks if mark.kind == chart.TEXT] == ['"Ok\\n"'], "the text of lend"
     forward = example("forward/expected")
     yield "2.2 20-74" in spans(forward, forward.waits), f"a call that is made again: {spans(forward, forward.waits)}"
@@ -121,7 +121,7 @@ def checks_of_windows():
     yield loans(after) == [] and len(after.waits) == 1, "a part without loans"
     client = example("lend/expected", only=[(3, None)])
     yield client.lanes() == [(3, 2)] and arrows(client) == (0, 0, 0, 0), "one process"
-    yield loans(client) == ["3.2 62-73"], f"loans of one process: {loans(client)}"
+    yield loans(client) == ["3.2 81-96"], f"loans of one process: {loans(client)}"
 
 
 def words(*given):
@@ -211,7 +211,7 @@ def checks_of_pictures(folder):
     counts = classes(text)
     wanted = {"m send": 1, "m answer": 1, "m loan": 2, "m wait": 3, "m mark text": 1, "m mark death": 1}
     yield {name: counts[name] for name in wanted} == wanted, f"the picture of lend: {counts}"
-    yield "62 3.2 call 00000010 00000002" in text, "the line of a mark"
+    yield "81 3.2 call 00000010 00000002" in text, "the line of a mark"
     yield "http" not in text.replace('xmlns="http://www.w3.org/2000/svg"', ""), "a picture has nothing from elsewhere"
     odd = drawn([f"1 2.2 byte {byte:02x}" for byte in b"<&>\"'\x07\xff"])
     yield "\"<&>\\\"'\\x07\\xff\"" in {each.text for each in ElementTree.fromstring(draw.svg(odd, names.Names(), "<&>")).iter()}, "letters of markup"
@@ -254,7 +254,7 @@ try {
     fact("no search", !document.body.classList.contains("searching"));
     document.querySelector(".death").dispatchEvent(new MouseEvent("click", { bubbles: true }));
     send.dispatchEvent(new MouseEvent("mouseover", { bubbles: true }));
-    fact("a mark that is clicked at stays", told().includes("114 client is dead"));
+    fact("a mark that is clicked at stays", told().includes("140 client is dead"));
     document.querySelector(".death").dispatchEvent(new MouseEvent("click", { bubbles: true }));
     key(id("view"), "ArrowDown");
     const marks = document.querySelectorAll(".mark"), at = document.activeElement;

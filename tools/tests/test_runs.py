@@ -70,7 +70,7 @@ class Idle(Case):
     def test_waiting_thread(self):
         lines = (LEND / "expected").read_text().splitlines()
         told = idle(lines, b"tick 1000\npick 2 2\n", len(read_image(LEND / "image").processes))
-        self.assertEqual(told, ["line 2: pick 2 2 at step 114: it waits: its ReceiveMessage of step 83 has no answer"])
+        self.assertEqual(told, ["line 2: pick 2 2 at step 140: it waits: its ReceiveMessage of step 106 has no answer"])
 
     def test_stored_orders_do_something(self):
         for name in ("win", "lose"):
@@ -82,7 +82,7 @@ class Idle(Case):
         made = self.folder / "events"
         made.write_text("pick 3 9\ntick 1000\nkill 9\n")
         ran = self.tool("xous-where", "--events", LEND / "image", made)
-        wanted = "line 1: pick 3 9 at step 0: process 3 has no thread 9\nline 3: kill 9 at step 114: there is no process 9; the image has 2 to 3\n"
+        wanted = "line 1: pick 3 9 at step 0: process 3 has no thread 9\nline 3: kill 9 at step 140: there is no process 9; the image has 2 to 3\n"
         self.assertEqual((ran.returncode, ran.stdout, ran.stderr), (0, wanted + "2 of 3 events did nothing\n", ""))
         ran = self.tool("xous-where", "--events", LEND / "image", made, "--json")
         told = json.loads(ran.stdout)

@@ -276,8 +276,8 @@ def checks_of_command(folder):
         ([lend / "expected", "--elf", "client.elf"], 2, "isn't PID=FILE"),
         ([lend / "expected", "--chart", "a.png"], 2, "ends with none of .svg, .html and .json"),
         ([lend / "expected", "--chart", "a.svg", "--summary"], 2, "give one of them"),
-        ([lend / "expected", "--image", lend / "image"], 0, "\n62 client.2 SendMessage(cid 2, MutableLend, id 7, "),
-        ([lend / "expected", "--image", lend / "image"], 0, "\n62 server.2 <- message 1 from client.2 MutableLend id 7 at 40000000+1000, "),
+        ([lend / "expected", "--image", lend / "image"], 0, "\n81 client.2 SendMessage(cid 2, MutableLend, id 7, "),
+        ([lend / "expected", "--image", lend / "image"], 0, "\n81 server.2 <- message 1 from client.2 MutableLend id 7 at 40000000+1000, "),
         ([EXAMPLES / "deaths/expected", "--image", EXAMPLES / "deaths/image"], 0, "\n51 lender(3) is dead: killed by an event\n"),
     ):
         ran = run(*words)
@@ -316,26 +316,26 @@ def checks_of_summaries():
         "threads",
         "  server.2: 4 calls: CreateServerWithAddress 1, ReceiveMessage 2, ReturnMemory 1",
         "    received 1 message: MutableLend 1",
-        "    waited 70 steps: 70 for messages",  # 62 - 23 and 114 - 83
+        "    waited 82 steps: 82 for messages",  # 81 - 33 and 140 - 106
         "  client.2: 5 calls: MapMemory 2, Connect 1, SendMessage 1, TerminateProcess 1",
         "    sent 1 message: MutableLend 1; 1 page lent",
-        "    waited 11 steps: 11 for answers",  # 73 - 62
+        "    waited 15 steps: 15 for answers",  # 96 - 81
         "    wrote 3 bytes to the console",
-        "    died with its process at step 114",
+        "    died with its process at step 140",
         "",
         "servers",
-        "  'fill' of server, made at step 11: MutableLend 1, 1 page lent to it",
+        '  "fill" of server, made at step 14: MutableLend 1, 1 page lent to it',
         "",
         "deaths",
-        "  114 client: TerminateProcess(exit 0)",
+        "  140 client: TerminateProcess(exit 0)",
         "",
-        "at the end, after step 114",
-        "  server.2 waits for a message at 'fill', since step 83",
+        "at the end, after step 140",
+        '  server.2 waits for a message at "fill", since step 106',
         "  nobody waits in a circle",
     ], f"the summary of lend: {lend}"
     for lines, line in (
-        (example("race/lose.expected", "race/image"), "  client.2 looked for 'race' at step 11; server.2 made it at step 36"),
-        (example("deaths/expected"), "  51 3: killed by an event"),
+        (example("race/lose.expected", "race/image"), '  client.2 looked for "race" at step 12; server.2 made it at step 38'),
+        (example("deaths/expected"), "  54 3: killed by an event"),
         (example("deaths/expected"), "  133 4: TerminateProcess(exit 1100)"),
         (example("fault/expected"), "  77 3: fault 15 of thread 3"),
         (example("forward/expected"), "    waited 86 steps: 54 for another try, 32 for messages"),  # 74 - 20 and 134 - 102
