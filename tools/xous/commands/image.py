@@ -3,6 +3,7 @@
 from __future__ import annotations
 
 import argparse
+import itertools
 import json
 from collections import defaultdict
 
@@ -76,7 +77,8 @@ def split(line: list[str]) -> tuple[list[str], dict[int, Words]]:
                 raise Refusal(f"{option} stands behind the program that it is for, with a value")
             give(programs[files - 2], option, given)
         elif word in WITH_VALUE:
-            own += [word, *[value for value in [next(rest, None)] if value is not None]]
+            own.append(word)
+            own += itertools.islice(rest, 1)
         else:
             own.append(word)
             files += not word.startswith("-")
