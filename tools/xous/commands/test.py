@@ -25,6 +25,8 @@ TESTS = ROOT / "tools" / "tests"
 class Result(unittest.TextTestResult):
     """What became of each test; how long it took is told with -v."""
 
+    began = 0.0  # when the test began
+
     def startTest(self, test):
         super().startTest(test)
         self.began = time.monotonic()
