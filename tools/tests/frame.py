@@ -45,7 +45,6 @@ class Given:
     program: str | None = None  # xousim
     searcher: str | None = None  # xousorders
     is_long: bool = False  # the searches of many states too
-    has_std: bool = False  # the tests of Rust's std too
 
 
 GIVEN = Given()
@@ -98,5 +97,5 @@ class Case(unittest.TestCase):
         environment = {**os.environ, **how.pop("env", {})}
         if GIVEN.program:
             environment.setdefault("XOUSIM", GIVEN.program)
-        given = {"capture_output": True, "text": True, "timeout": 900, **how}
-        return subprocess.run([sys.executable, TOOLS / name, *map(str, words)], env=environment, check=False, **given)
+        given: dict = {"capture_output": True, "text": True, "timeout": 900, **how}
+        return subprocess.run([sys.executable, str(TOOLS / name), *map(str, words)], env=environment, check=False, **given)

@@ -1,14 +1,11 @@
-"""Rust's tests of std, which tools/test-std builds and plays; they take hours."""
+"""Rust's tests of std, which tools/test-std builds and plays; they take hours, so --std asks for them."""
 
 import subprocess
-import unittest
 
-from .frame import GIVEN, TOOLS, Case, need_program
+from .frame import TOOLS, Case, need_program
 
 
 class Std(Case):
     def test_std(self):
         program = need_program()
-        if not GIVEN.has_std:
-            raise unittest.SkipTest("Rust's tests of std weren't asked for: tools/test XOUSIM --std")
         self.assertEqual(subprocess.run([TOOLS / "test-std", program], check=False).returncode, 0)

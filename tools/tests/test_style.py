@@ -1,4 +1,4 @@
-"""What pylint and mypy say of the tools, by tools/pylintrc and tools/mypy.ini."""
+"""What pylint and mypy say of the tools, by tools/pylintrc and tools/mypy.ini; --style asks for it."""
 
 import subprocess
 

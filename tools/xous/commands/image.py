@@ -3,6 +3,7 @@
 from __future__ import annotations
 
 import argparse
+import itertools
 import json
 from collections import defaultdict
 
@@ -71,12 +72,13 @@ def split(line: list[str]) -> tuple[list[str], dict[int, Words]]:
     for word in rest:
         option, equals, value = word.partition("=")
         if option in OF_A_PROGRAM:
-            given = value if equals else next(rest, None)
-            if given is None or files < 2:
+            given = [value] if equals else list(itertools.islice(rest, 1))
+            if not given or files < 2:
                 raise Refusal(f"{option} stands behind the program that it is for, with a value")
-            give(programs[files - 2], option, given)
+            give(programs[files - 2], option, given[0])
         elif word in WITH_VALUE:
-            own += [word, *[value for value in [next(rest, None)] if value is not None]]
+            own.append(word)
+            own += itertools.islice(rest, 1)
         else:
             own.append(word)
             files += not word.startswith("-")

@@ -14,16 +14,18 @@ from collections.abc import Iterator
 from ..command import ROOT, Parser
 from ..errors import Refusal
 
-USAGE = "test [XOUSIM [XOUSORDERS]] [-k NAME].. [--std] [--long] [--list] [-v]"
+USAGE = "test [XOUSIM [XOUSORDERS]] [-k NAME].. [--std] [--style] [--long] [--list] [-v]"
 DESCRIPTION = """Runs the tests of the tools, and of the programs xousim and xousorders where these are given.
 
 Without a program its tests are skipped, and so are those that need a package that is missing. The last lines say how many were
-skipped and why; with XOUS_TESTS=all in the environment a skipped test is a failed one."""
+skipped and why; with XOUS_TESTS=all in the environment a skipped test is a failed one. Tests that a flag asks for don't count."""
 TESTS = ROOT / "tools" / "tests"
 
 
 class Result(unittest.TextTestResult):
     """What became of each test; how long it took is told with -v."""
+
+    began = 0.0  # when the test began
 
     def startTest(self, test):
         super().startTest(test)
@@ -42,6 +44,7 @@ def parser() -> Parser:
     words.add_argument("searcher", metavar="XOUSORDERS", nargs="?", type=pathlib.Path, help="the program xousorders")
     words.add_argument("-k", dest="names", action="append", default=[], metavar="NAME", help="tests with this part in their name, or this pattern")
     words.add_argument("--std", action="store_true", help="Rust's tests of std too, which take hours (tools/test-std)")
+    words.add_argument("--style", action="store_true", help="what mypy and pylint say of the tools too")
     words.add_argument("--long", action="store_true", help="searches of orders with many states too")
     words.add_argument("--list", action="store_true", help="print the names of the tests")
     words.add_argument("-v", dest="is_told", action="store_true", help="tell each test")
@@ -56,10 +59,11 @@ def each(suite: unittest.TestSuite) -> Iterator[unittest.TestCase]:
             yield test
 
 
-def chosen(names: list[str]) -> list[unittest.TestCase]:
-    """The tests that have one of these names; all without names."""
+def chosen(names: list[str], left_out: tuple[str, ...]) -> list[unittest.TestCase]:
+    """The tests that have one of these names, without those of some modules; all without names."""
     loader = unittest.TestLoader()
-    found = each(loader.discover(str(TESTS), "test_*.py", str(TESTS.parent)))
+    every = each(loader.discover(str(TESTS), "test_*.py", str(TESTS.parent)))
+    found = [test for test in every if not test.id().startswith(left_out)]
     patterns = [name if any(sign in name for sign in "*?[") else f"*{name}*" for name in names]
     return [test for test in found if not patterns or any(fnmatch.fnmatchcase(test.id(), pattern) for pattern in patterns)]
 
@@ -80,8 +84,9 @@ def main(line: list[str]) -> int:
     from tests.frame import GIVEN  # pylint: disable=import-outside-toplevel
 
     GIVEN.program, GIVEN.searcher = (path and str(path.resolve()) for path in (given.program, given.searcher))
-    GIVEN.is_long, GIVEN.has_std = given.long, given.std
-    tests = chosen(given.names)
+    GIVEN.is_long = given.long
+    flags = {"tests.test_std.": given.std, "tests.test_style.": given.style}
+    tests = chosen(given.names, tuple(name for name, is_asked in flags.items() if not is_asked))
     if given.list:
         print("\n".join(test.id().removeprefix("tests.") for test in tests))
         return 0

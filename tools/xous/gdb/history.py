@@ -22,7 +22,7 @@ class History:
         self.run = run
         self.step = 0
         self.breaks, self.watches = Breakpoints(run), Watchpoints(run)
-        self.calls = []
+        self.calls: list[points.CallBreak] = []
         self.told = None  # the step at which the death that follows was told
         self.told_store = None  # the step at which a store by another process that follows was told
         self.ahead = None  # a step to which gdb may go next

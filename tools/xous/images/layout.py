@@ -7,7 +7,7 @@ from dataclasses import dataclass, field
 
 from ..checksum import check_number
 from ..errors import Fault
-from ..machine import FIRST_PID, MOST_SLOTS, PAGE, TABLE_FRAMES
+from ..machine import FIRST_PID, PAGE, TABLE_FRAMES
 
 RAM_START = 0x4000_0000
 RAM_END = 0xF000_0000

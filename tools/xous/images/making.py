@@ -13,7 +13,6 @@ from .layout import (
     LARGEST_RAM,
     MOST_PROCESSES,
     ZERO_FILLED,
-    Image,
     check_plan,
     check_ram,
     check_section,

@@ -47,7 +47,7 @@ class Node:
     slices: int
     console: bytes
     once: tuple
-    machine: state.State = None
+    machine: state.State | None = None
     file: str = ""  # of the machine's bytes, as long as the node isn't expanded
 
 

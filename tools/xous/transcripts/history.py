@@ -6,8 +6,10 @@ the text doesn't tell, such as pages and registers, is asked of nothing.
 """
 
 from .. import names
+from ..machine import FIRST_PID, FIRST_TID, TIMER_INTERRUPT
+from ..machine import HANDLER_TID as HANDLER
 from . import decode, rules
-from .laws import ACTS, ANSWER, CONNECTIONS, FIRST_PID, FIRST_TID, HANDLER, LOST, MESSAGE, ORDER, TIMER_INTERRUPT
+from .laws import ACTS, ANSWER, CONNECTIONS, LOST, MESSAGE, ORDER
 from .laws import Broken, eight, refusal, text_of
 
 

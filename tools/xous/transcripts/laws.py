@@ -3,8 +3,6 @@
 from dataclasses import dataclass, field
 
 from .. import names
-from ..machine import FIRST_PID, FIRST_TID, MOST_TIDS, TIMER_INTERRUPT
-from ..machine import HANDLER_TID as HANDLER
 from . import decode
 
 ORDER = "a step's records stand in one order"

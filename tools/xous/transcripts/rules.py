@@ -5,8 +5,10 @@ It answers what the caller's reply has to pass.
 """
 
 from .. import names
+from ..machine import FIRST_TID, MOST_TIDS
+from ..machine import HANDLER_TID as HANDLER
 
-from .laws import ANSWER, FIRST_TID, HANDLER, LOST, MESSAGE, MOST_SERVERS, MOST_TIDS, Broken, Message, Server
+from .laws import ANSWER, LOST, MESSAGE, MOST_SERVERS, Broken, Message, Server
 from .laws import eight, is_exactly, refusal
 
 # What a served call is answered with in its own step; the calls on messages say it themselves.

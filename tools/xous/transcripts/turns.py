@@ -8,9 +8,11 @@ the end of a tick right behind the end of a turn (Yield, a retry, another tick),
 """
 
 from .. import names
+from ..machine import HANDLER_TID as HANDLER
+from ..machine import TIMER_INTERRUPT
 from . import decode
 
-from .laws import ACTS, HANDLER, TIMER_INTERRUPT, Broken
+from .laws import ACTS, Broken
 from .history import History
 
 TURN = "turns are fair"
