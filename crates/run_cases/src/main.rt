@@ -7,11 +7,11 @@ mod sweeping;
 mod telling;
 
 use anyhow::{Context, Error, Result, anyhow, ensure};
-use case_files::{Block, Book, Difference, are_same, blocks, case_of, define, rows_of};
+use case_files::{Block, Book, Difference, Left, are_same, blocks, case_of, define, rows_of};
 use std::alloc::Global;
 use std::fs;
 use std::rt::Files;
-use sweeping::play_case;
+use sweeping::{Played, play_case};
 use telling::tell_difference;
 
 /// The files of cases. What the first names is there for all.
@@ -62,13 +62,19 @@ fn play_row<R: Print>(
     row: Option<&str>,
 ) -> Result<()> {
     let case = case_of(alloc, book, block, row)?;
-    let played = play_case(alloc, &case)?;
-    if let Some(difference) = played.difference {
-        tell_difference(rt, &case, &played.left, row)?;
+    let Played { left, difference } = play_case(alloc, &case)?;
+    if let Some(difference) = difference {
+        tell_difference(rt, &case, &left, row)?;
         return Err(unwanted(block.head.number, block.head.text, difference));
     }
     if let Some(name) = &case.keep {
-        book.put_text(alloc, name.as_str(), played.left.out)?;
+        let Left {
+            number: _,
+            note: _,
+            out,
+            notes: _,
+        } = left;
+        book.put_text(alloc, name.as_str(), out)?;
     }
     Ok(())
 }
