@@ -22,7 +22,7 @@ from dataclasses import dataclass, field
 
 KIT = pathlib.Path(__file__).resolve().parent
 ROOT = KIT.parents[2]
-OUT = ROOT / "examples" / "out" / "rust"
+OUT = pathlib.Path(os.environ.get("XOUS_RUST_OUT") or ROOT / "examples" / "out" / "rust")  # set by the kit's cargo
 KIT_SERVERS = ("log", "ticktimer", "systime", "names")
 FIRST_PID = 2
 TERMINATE = "00000016"
