@@ -129,6 +129,12 @@ class Projects(Case):
                 for path in files:
                     self.assertNotRegex(path.read_text(), r"NAME|CHECKOUT_FOLDER|\bPACKAGES\b|\bORDERS\b", str(path))
 
+    def test_events(self):
+        """A line of events has at most 64 bytes, a comment too (docs/output.md)."""
+        made = self.new("--c")
+        lines = (made / "events").read_bytes().splitlines()
+        self.assertEqual([line for line in lines if len(line) > 64], [])
+
     def test_both_kinds(self):
         made = self.tool("xous-new", self.folder / "mine", "--c", "--rust")
         self.assertEqual(made.returncode, 2)
