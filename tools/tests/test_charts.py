@@ -55,12 +55,12 @@ def loans(found):
 
 # Each line of a client is a page that is lent to the log.
 LOG_LOANS = [f"{thread} {span}" for thread, span in (
-    ("3.2", "401-1356"), ("2.2", "401-1356"), ("4.2", "1222-1711"), ("2.2", "1222-1711"),
-    ("3.2", "1989-2151"), ("2.2", "1989-2151"), ("3.2", "2429-2563"), ("2.2", "2429-2563"),
+    ("3.2", "286-1011"), ("2.2", "286-1011"), ("4.2", "896-1346"), ("2.2", "896-1346"),
+    ("3.2", "1541-1678"), ("2.2", "1541-1678"), ("3.2", "1873-1988"), ("2.2", "1873-1988"),
 )]
 
 # The client of keys lends its page twice.
-KEYS_LOANS = ["3.2 139-344", "2.2 139-344", "3.2 413-617", "2.2 413-617"]
+KEYS_LOANS = ["3.2 142-347", "2.2 142-347", "3.2 416-620", "2.2 416-620"]
 
 # Each of two servers has lent to the other, for good.
 DEADLOCK_LOANS = ["2.2 141-end", "3.2 141-end", "3.2 152-end", "2.2 152-end"]
@@ -73,11 +73,11 @@ STORIES = {
     "threads/picked.expected": ((0, 0, 2, 2), [], 1, {"end": 2}),
     "scalars/expected": ((4, 2, 0, 0), [], 1, {}),
     "lend/expected": ((1, 1, 0, 0), ["3.2 81-96", "2.2 81-96"], 1, {chart.TEXT: 1}),
-    "fault/expected": ((1, 0, 1, 0), ["3.2 75-77", "2.2 75-88"], 1, {"fault": 1}),
-    "fault/early.expected": ((1, 1, 1, 0), ["3.2 80-91", "2.2 80-91"], 1, {"end": 1}),
-    "forward/expected": ((2, 1, 0, 0), ["4.2 73-114", "2.2 73-92", "3.2 92-114"], 1, {chart.AGAIN: 1}),
+    "fault/expected": ((1, 0, 1, 0), ["3.2 78-80", "2.2 78-91"], 1, {"fault": 1}),
+    "fault/early.expected": ((1, 1, 1, 0), ["3.2 83-94", "2.2 83-94"], 1, {"end": 1}),
+    "forward/expected": ((2, 1, 0, 0), ["4.2 97-155", "2.2 97-131", "3.2 131-155"], 1, {chart.AGAIN: 1}),
     "driver/expected": ((3, 0, 0, 0), [], 0, {"irq": 3, "end": 3, chart.TEXT: 3}),
-    "deaths/expected": ((2, 0, 0, 0), ["3.2 51-51", "2.2 51-107", "4.2 82-116", "2.2 82-116"], 3, {chart.REFUSED: 1}),
+    "deaths/expected": ((2, 0, 0, 0), ["3.2 54-54", "2.2 54-110", "4.2 86-120", "2.2 86-120"], 3, {chart.REFUSED: 1}),
     "keys/expected": ((2, 2, 0, 0), KEYS_LOANS, 1, {chart.TEXT: 1}),
     "keys/leaky.expected": ((2, 2, 0, 0), KEYS_LOANS, 1, {chart.TEXT: 1}),
     "orders/deadlock.expected": ((2, 0, 0, 0), DEADLOCK_LOANS, 1, {chart.AGAIN: 1}),
@@ -86,7 +86,7 @@ STORIES = {
     "race/lose.expected": ((0, 0, 0, 0), [], 1, {chart.REFUSED: 1}),
     "race/win.expected": ((1, 1, 0, 0), [], 1, {}),
     "log/expected": ((4, 4, 0, 0), LOG_LOANS, 2, {chart.AGAIN: 2, chart.REFUSED: 1}),
-    "timer/expected": ((4, 3, 1, 0), ["4.2 3956-4611", "2.2 3956-4611"], 0, {"irq": 1, "end": 1, chart.TEXT: 1}),
+    "timer/expected": ((4, 3, 1, 0), ["4.2 3857-3993", "2.2 3857-3993"], 1, {"irq": 1, "end": 1, chart.TEXT: 1}),
 }
 
 
@@ -108,16 +108,16 @@ def checks_of_stories():
     yield labels == ['waits for a message at "fill"', 'waits for the answer of "fill"'], f"waits of lend: {labels}"
     yield [mark.label for mark in lend.marks if mark.kind == chart.TEXT] == ['"Ok\\n"'], "the text of lend"
     forward = example("forward/expected")
-    yield "2.2 20-74" in spans(forward, forward.waits), f"a call that is made again: {spans(forward, forward.waits)}"
+    yield "2.2 26-98" in spans(forward, forward.waits), f"a call that is made again: {spans(forward, forward.waits)}"
 
 
 def checks_of_windows():
-    late = example("lend/expected", first=63, last=89)
-    yield late.steps == [73, 83], f"the steps of a part: {late.steps}"
-    yield loans(late) == ["3.2 before-73", "2.2 before-73"], f"loans from before: {loans(late)}"
-    yield spans(late, late.waits) == ["3.2 before-73", "2.2 83-end"], f"waits from before: {spans(late, late.waits)}"
+    late = example("lend/expected", first=82, last=113)
+    yield late.steps == [96, 106], f"the steps of a part: {late.steps}"
+    yield loans(late) == ["3.2 before-96", "2.2 before-96"], f"loans from before: {loans(late)}"
+    yield spans(late, late.waits) == ["3.2 before-96", "2.2 106-end"], f"waits from before: {spans(late, late.waits)}"
     yield arrows(late) == (0, 1, 0, 0), "arrows of a part"
-    after = example("lend/expected", first=90)
+    after = example("lend/expected", first=114)
     yield loans(after) == [] and len(after.waits) == 1, "a part without loans"
     client = example("lend/expected", only=[(3, None)])
     yield client.lanes() == [(3, 2)] and arrows(client) == (0, 0, 0, 0), "one process"
@@ -249,7 +249,7 @@ try {
     id("find").dispatchEvent(new Event("input", { bubbles: true }));
     fact("search", id("found").textContent === "1 of 2" && document.querySelectorAll(".found").length === 2);
     key(id("find"), "Enter");
-    fact("the next one", id("found").textContent === "2 of 2" && told().includes("44 client.2 MapMemory"));
+    fact("the next one", id("found").textContent === "2 of 2" && told().includes("58 client.2 MapMemory"));
     key(id("find"), "Escape");
     fact("no search", !document.body.classList.contains("searching"));
     document.querySelector(".death").dispatchEvent(new MouseEvent("click", { bubbles: true }));

@@ -303,7 +303,7 @@ class Json(Case):
         lines = told_json("view", "--json", "--image", LEND / "image", LEND / "expected")
         self.assertTrue(all(set(line) == self.fields("transcript.md", "`tools/xous-view --json` prints an object") for line in lines))
         send = next(line for line in lines if line["call"] == "SendMessage" and line["kind"] == "reply")
-        self.assertEqual((send["step"], send["pid"], send["process"], send["of_step"], send["message"]), (73, 3, "client", 62, 1))
+        self.assertEqual((send["step"], send["pid"], send["process"], send["of_step"], send["message"]), (96, 3, "client", 81, 1))
         self.assertEqual(len(lines), len((LEND / "expected").read_text().splitlines()))
 
     def test_image(self):
@@ -320,7 +320,7 @@ class Json(Case):
         ran = self.tool("xous-where", FAULT / "image", FAULT / "events", "--fault", "--json", "--watch", "3:0x60000000")
         (state,) = map(json.loads, ran.stdout.splitlines())
         self.assertEqual(set(state), self.fields("transcript.md", "`tools/xous-where --json` prints an object"))
-        self.assertEqual((state["step"], state["fault"]["cause"], state["fault"]["value"]), (76, 15, 0x6000_0000))
+        self.assertEqual((state["step"], state["fault"]["cause"], state["fault"]["value"]), (79, 15, 0x6000_0000))
         self.assertEqual([thread["state"] for thread in state["threads"] if thread["next"]], ["Ready"])
         self.assertIn("lent mutably to 2", state["watched"][0]["why"])
 

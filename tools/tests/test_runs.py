@@ -139,9 +139,9 @@ class Traces(Case):
         rows = told["traceEvents"]
         self.assertEqual([row["args"]["name"] for row in rows if row["name"] == "process_name"], ["server (pid 2)", "client (pid 3)"])
         flows = [(row["ph"], row["ts"], row["pid"], row["id"]) for row in rows if row["ph"] in "sf"]
-        self.assertEqual(flows, [("s", 62, 3, 1), ("f", 62, 2, 1), ("s", 73, 2, 2), ("f", 73, 3, 2)])
+        self.assertEqual(flows, [("s", 81, 3, 1), ("f", 81, 2, 1), ("s", 96, 2, 2), ("f", 96, 3, 2)])
         loans = [(row["ph"], row["ts"], row["pid"]) for row in rows if row.get("cat") == "loan"]
-        self.assertEqual(loans, [("b", 62, 3), ("e", 73, 3), ("b", 62, 2), ("e", 73, 2)])
+        self.assertEqual(loans, [("b", 81, 3), ("e", 96, 3), ("b", 81, 2), ("e", 96, 2)])
         self.assertTrue(all(row["dur"] >= 1 for row in rows if row["ph"] == "X"))
 
     def test_many_marks(self):

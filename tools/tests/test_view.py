@@ -278,7 +278,7 @@ def checks_of_command(folder):
         ([lend / "expected", "--chart", "a.svg", "--summary"], 2, "give one of them"),
         ([lend / "expected", "--image", lend / "image"], 0, "\n81 client.2 SendMessage(cid 2, MutableLend, id 7, "),
         ([lend / "expected", "--image", lend / "image"], 0, "\n81 server.2 <- message 1 from client.2 MutableLend id 7 at 40000000+1000, "),
-        ([EXAMPLES / "deaths/expected", "--image", EXAMPLES / "deaths/image"], 0, "\n51 lender(3) is dead: killed by an event\n"),
+        ([EXAMPLES / "deaths/expected", "--image", EXAMPLES / "deaths/image"], 0, "\n54 lender(3) is dead: killed by an event\n"),
     ):
         ran = run(*words)
         said = (ran.stdout + ran.stderr).decode()
@@ -311,7 +311,7 @@ def example(path, image=None):
 def checks_of_summaries():
     lend = example("lend/expected", "lend/image")
     yield lend == [
-        "114 steps in 21 lines; all events were played",
+        "140 steps in 21 lines; all events were played",
         "",
         "threads",
         "  server.2: 4 calls: CreateServerWithAddress 1, ReceiveMessage 2, ReturnMemory 1",
@@ -336,10 +336,10 @@ def checks_of_summaries():
     for lines, line in (
         (example("race/lose.expected", "race/image"), '  client.2 looked for "race" at step 12; server.2 made it at step 38'),
         (example("deaths/expected"), "  54 3: killed by an event"),
-        (example("deaths/expected"), "  133 4: TerminateProcess(exit 1100)"),
-        (example("fault/expected"), "  77 3: fault 15 of thread 3"),
-        (example("forward/expected"), "    waited 86 steps: 54 for another try, 32 for messages"),  # 74 - 20 and 134 - 102
-        (example("forward/expected"), "  'back' of 3, made at step 31: no messages, 1 message passed on to it"),
+        (example("deaths/expected"), "  137 4: TerminateProcess(exit 1100)"),
+        (example("fault/expected"), "  80 3: fault 15 of thread 3"),
+        (example("forward/expected"), "    waited 111 steps: 72 for another try, 39 for messages"),  # 98 - 26 and 180 - 141
+        (example("forward/expected"), '  "back" of 3, made at step 40: no messages, 1 message passed on to it'),
         (example("driver/expected"), "    ran its handler 3 times"),
         (example("threads/picked.expected"), "    waited 86 steps: 86 for threads to end"),  # 104 - 61 and 165 - 122
         (example("threads/expected"), "    errors: InvalidThread 1"),
