@@ -167,9 +167,9 @@ def step_checks(program):
 
 
 def reach_checks(program):
-    """The page of examples/lend while it is on loan, and after its return; step 62 and 73 are in docs/transcript.md."""
+    """The page of examples/lend while it is on loan, and after its return; steps 81 and 96 are in docs/transcript.md."""
     run = Run(EXAMPLES / "lend" / "image", EXAMPLES / "lend" / "events", program=program)
-    lent, back = run.state_at(72), run.state_at(73)
+    lent, back = run.state_at(95), run.state_at(96)
     run.close()
     yield reach.load(lent, 2, 0x4000_0000, 3) == b"ok\n", "lend: the server reads the page that it has"
     try:
@@ -200,20 +200,17 @@ class Bench:
     def __init__(self, program, folder):
         self.program, self.folder = program, folder
 
-    def compile(self, source, name):
-        """A program as the examples are made."""
-        target = self.folder / f"{name}.elf"
-        text = "".join(path.read_text() for path in (EXAMPLES / "Makefile", *EXAMPLES.glob("kit/*.mk")))
-        flags = re.search(r"^CFLAGS = ((?:.*\\\n)*.*)", text, re.M)[1]
-        link = ["-nostdlib", "-static", "-T", "link.ld", "-Wl,--no-relax", "-Wl,--build-id=none", "-I."]
-        words = [COMPILER, *flags.replace("\\\n", " ").split(), *link, "-o", target, "start.S", source]
-        subprocess.run(words, cwd=EXAMPLES / "kit", check=True)
-        return target
+    def compile(self, source):
+        """A program as the examples are made: by the kit's own Makefile, with its compiler and flags."""
+        target = f"out/{source.stem}.elf"
+        words = ["make", "-s", "-f", EXAMPLES / "kit" / "kit.mk", f"VPATH={source.parent}", target]
+        subprocess.run(words, cwd=self.folder, check=True, stdout=subprocess.DEVNULL)
+        return self.folder / target
 
     def own(self, text, name):
         source = self.folder / f"{name}.c"
         source.write_text(text)
-        return self.compile(source, name)
+        return self.compile(source)
 
     def image(self, *programs):
         image = self.folder / f"{programs[0].stem}.img"
@@ -260,7 +257,7 @@ def symbol(path, name):
 def race_checks(bench):
     """Breakpoints in two processes, forwards and backwards, and a backtrace in C."""
     folder = EXAMPLES / "race"
-    programs = [bench.compile(folder / f"{name}.c", name) for name in ("client", "server")]
+    programs = [bench.compile(folder / f"{name}.c") for name in ("client", "server")]
     same = bench.image(*programs).read_bytes() == (folder / "image").read_bytes()
     yield same, "race: -g leaves the image as it is stored"
     client, server = (symbol(path, "main") for path in programs)
@@ -274,8 +271,8 @@ def race_checks(bench):
     yield "(2 locations)" in answers[1], "race: a breakpoint in both programs"
     yield re.search(r"server.*hit Breakpoint", answers[2]), "race: the server comes to its main first"
     yield re.search(r"client.*hit Breakpoint", answers[3]), "race: then the client"
-    yield "of 72, 2.2 acts next" in answers[4], "race: the thread that acts"
-    yield "step 43: 2.2 calls SendMessage" in answers[6], "race: a stop before a call of the transcript"
+    yield "of 75, 2.2 acts next" in answers[4], "race: the thread that acts"
+    yield "step 46: 2.2 calls SendMessage" in answers[6], "race: a stop before a call of the transcript"
     backtrace = re.findall(r"#\d+ +(?:0x\w+ in )?(\w+) \(", answers[7])
     yield backtrace[:3] == ["xous_call", "xous_send_message", "main"], f"race: the backtrace, which is {backtrace}"
     yield re.search(r"client.*hit Breakpoint", answers[8]), "race: back at the client's main"
@@ -288,13 +285,13 @@ def race_checks(bench):
 def fault_checks(bench):
     """From the fault back to its cause, which the README of the example says: a page that is on loan."""
     folder = EXAMPLES / "fault"
-    programs = [bench.compile(folder / f"{name}.c", f"fault-{name}") for name in ("server", "client")]
+    programs = [bench.compile(folder / f"{name}.c") for name in ("server", "client")]
     store, send = (line_with(folder / "client.c", text) for text in ("*page = 1", "send_message("))
     answers = bench.gdb(
         folder / "image", folder / "events", programs,
         "continue", "info threads", "print *page", "monitor who", "set var $a0 = 1",
         "monitor break-call SendMessage", "reverse-continue", "backtrace", "stepi", "reverse-stepi", "monitor step",
-        "monitor goto 98", "continue", "info threads", "monitor events", "continue", "monitor transcript 77 77",
+        "monitor goto 101", "continue", "info threads", "monitor events", "continue", "monitor transcript 80 80",
         "monitor goto 0", "continue", "info threads",
     )  # fmt: skip
     yield "SIGSEGV" in answers[0] and f"client.c:{store}" in answers[0], "fault: stops at the store"
@@ -303,21 +300,21 @@ def fault_checks(bench):
     yield "Cannot access memory at address 0x60000000" in answers[2], "fault: the page is out of reach"
     yield "3.2 waits for message 1, held at server fill of 2" in answers[3], "fault: who waits for whom"
     yield "nothing can be written" in answers[4], "fault: a write is refused in words"
-    yield "step 75: 3.2 calls SendMessage" in answers[6], "fault: back at the call that lends the page"
+    yield "step 78: 3.2 calls SendMessage" in answers[6], "fault: back at the call that lends the page"
     yield re.search(rf"main \(\) at .*client\.c:{send}\b", answers[7]), "fault: the line that lends it"
-    yield "step 74 of 98, 3.2 acts next" in answers[10], "fault: a step forwards and one backwards"
+    yield "step 77 of 101, 3.2 acts next" in answers[10], "fault: a step forwards and one backwards"
     yield re.search(r"3\.2 .*\(gone\)", answers[13]), "fault: the dead process at the end"
     yield "tick 1000" in answers[14], "fault: the events that lead to the end"
-    yield "end 98 done" in answers[15] and "No more" in answers[15], "fault: the end of the history"
+    yield "end 101 done" in answers[15] and "No more" in answers[15], "fault: the end of the history"
     lines = (folder / "expected").read_text().splitlines()
-    yield "\n".join(line for line in lines if line.startswith("77 ")) in answers[16], "fault: lines of the transcript"
+    yield "\n".join(line for line in lines if line.startswith("80 ")) in answers[16], "fault: lines of the transcript"
     yield re.search(r"3\.2 .*\(ready\)", answers[19]), "fault: the dead process lives again at the start"
 
 
 def lend_checks(bench):
     """A watched word of a page that is lent: the store is the server's. And steps that follow one thread over a wait."""
     folder = EXAMPLES / "lend"
-    programs = [bench.compile(folder / f"{name}.c", f"lend-{name}") for name in ("server", "client")]
+    programs = [bench.compile(folder / f"{name}.c") for name in ("server", "client")]
     lent, own = line_with(folder / "server.c", "page[0] = 'o'"), line_with(folder / "client.c", "page = 'O'")
     answers = bench.gdb(
         folder / "image", folder / "events", programs,
@@ -332,7 +329,7 @@ def lend_checks(bench):
     yield f"client.c:{own}" in answers[6], "lend: backwards to the lender's store"
     yield f"server.c:{lent}" in answers[7], "lend: backwards to the store of the server"
     step = re.search(r"step (\d+) of", answers[15])
-    yield step and int(step[1]) >= 73, "lend: the lender's next line comes after the return, step 73 of docs/transcript.md"
+    yield step and int(step[1]) >= 96, "lend: the lender's next line comes after the return, step 96 of docs/transcript.md"
 
 
 def lost_checks(bench):
@@ -392,7 +389,7 @@ def word_checks(bench):
     limited = bench.gdb(f"{folder / 'image'}", f"{folder / 'win.events'} 30", [], "continue", "continue", "monitor step")
     alone = bench.gdb(folder / "image", f"{folder / 'win.events'} --pid 3", [], "info inferiors", "stepi", "monitor step")
     yield re.search(r"\* 1 +process 3", alone[0]), "--pid: the process of gdb's own file"
-    yield "step 1 of 72" in alone[2], "no program is given: gdb knows the machine all the same"
+    yield "step 1 of 75" in alone[2], "no program is given: gdb knows the machine all the same"
     yield "step limit 30" in limited.whole and "step 30 of 30" in limited[2], "the step limit: told at the end"
 
 
@@ -417,7 +414,7 @@ class Gdb(Case):
     def setUp(self):
         super().setUp()
         program = need_program()
-        need(COMPILER, GDB, "elftools")
+        need("make", COMPILER, GDB, "elftools")
         self.bench = Bench(program, self.folder)
 
     def test_race(self):
