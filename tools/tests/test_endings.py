@@ -308,7 +308,7 @@ class Json(Case):
 
     def test_image(self):
         (image,) = told_json("image", "--list", LEND / "image", "--json")
-        fields = self.fields("image.md", "With `--json` it prints one object")
+        fields = self.fields("image.md", "With `--json`, `--list` prints one object")
         self.assertEqual(set(image) | {"sections"}, fields)
         self.assertEqual(set(image["processes"][0]), {"pid", "name", "entry", "load", "check", "sections"})
         self.assertEqual(set(image["processes"][0]["sections"][0]), {"address", "size", "right", "zeros"})
