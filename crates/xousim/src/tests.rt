@@ -132,12 +132,19 @@ fn real_streams(rt: HostRuntime) -> Result<(), Fail> {
     Ok(())
 }
 
-/// The first image with a RAM of 23 frames, of which one is left for pages.
-fn one_frame_image() -> [u8; 88] {
+/// The eighth word of its code, which stores on the console: `sb a5, 0(a1)`.
+const STORE_ON_CONSOLE: u32 = 0x00F5_8023;
+
+/// A word that stores on the stack: `sw a5, -4(sp)`.
+const STORE_ON_STACK: u32 = 0xFEF1_2E23;
+
+/// The first image with a RAM of 23 frames, of which one is left for pages, and with this eighth word of code.
+fn one_frame_image(eighth: u32) -> [u8; 88] {
     let mut image = FIRST_IMAGE;
     image[20..24].copy_from_slice(&[0x00, 0x70, 0x01, 0x00]);
     // The check number over the tag with it.
     image[4..6].copy_from_slice(&[0xe9, 0x61]);
+    image[80..84].copy_from_slice(&eighth.to_le_bytes());
     image
 }
 
@@ -149,7 +156,7 @@ fn real_store(rt: HostRuntime) -> Result<(), Fail> {
     let name = "full-house.swap";
     let texts = ["trace", "i", "e", "1000", "9", name];
     for _ in 0..2 {
-        let mut host = host_of(alloc, &one_frame_image())?;
+        let mut host = host_of(alloc, &one_frame_image(STORE_ON_CONSOLE))?;
         let disk = RealDisk::new(&rt);
         let store = ProgramStore::new(alloc, &disk);
         let left = run(alloc, &texts, &mut host, store)?;
@@ -170,14 +177,13 @@ fn expect_slots(rt: &impl Abort, file: &[u8], page: &[u8; 4096], wanted: usize) 
     assert_eq!(rt; found, wanted);
 }
 
-/// A run whose last step stores on the stack, by `sw a5, -4(sp)` in place of the store to the console, leaves that page
+/// A run whose last step stores on the stack, in place of the store on the console, leaves that page
 /// in RAM. The other nine are the slots': the page of the code and eight of zeros.
 #[test]
 fn pages_stand_whole_in_their_file(rt: HostRuntime) -> Result<(), Fail> {
     let alloc = rt.alloc();
     let name = "whole-pages.swap";
-    let mut image = one_frame_image();
-    image[80..84].copy_from_slice(&0xFEF1_2E23_u32.to_le_bytes());
+    let image = one_frame_image(STORE_ON_STACK);
     let mut host = host_of(alloc, &image)?;
     let disk = RealDisk::new(&rt);
     let store = ProgramStore::new(alloc, &disk);
