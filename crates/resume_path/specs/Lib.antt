@@ -1,6 +1,5 @@
 pub mod Coming
 pub mod Messages
 pub mod Resumable
-pub mod Resumed
 pub mod Standing
 pub mod Tables

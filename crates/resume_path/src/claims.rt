@@ -36,8 +36,8 @@ fn claim_again(claims: &mut Claims, row: &ClaimRow)
     }
 }
 
-// The claims of a state, with what is pending.
-pub(crate) fn resume_claims(state: &State) -> Claims
+/// The claims of a state, with what is pending.
+pub fn resume_claims(state: &State) -> Claims
     requires resumable { CanResume state.now }
     ensures claims { (k : ℕ) → claims_shown result k ≡ state_claims state.now.claims k }
     ensures pending { (k : ℕ) → pending_shown result k ≡ pending_of state.now.claims k }
@@ -49,8 +49,8 @@ pub(crate) fn resume_claims(state: &State) -> Claims
     claims
 }
 
-// The timer of a state.
-pub(crate) fn resume_timer(state: &State) -> Timer
+/// The timer of a state.
+pub fn resume_timer(state: &State) -> Timer
     ensures { result ≡ compare_of state.now }
 {
     let mut timer = Timer::new();
@@ -60,8 +60,8 @@ pub(crate) fn resume_timer(state: &State) -> Timer
     timer
 }
 
-// The reservation of a state.
-pub(crate) fn resume_reservation(state: &State) -> Option<(ThreadId, u32)>
+/// The reservation of a state.
+pub fn resume_reservation(state: &State) -> Option<(ThreadId, u32)>
     requires resumable { CanResume state.now }
     ensures { option_map as_reservation result ≡ reservation_of state.now }
 {
@@ -75,8 +75,8 @@ pub(crate) fn resume_reservation(state: &State) -> Option<(ThreadId, u32)>
     Some((who, state.reserved_address))
 }
 
-// The thread whose turn it is.
-pub(crate) fn resume_cursor(state: &State) -> ThreadId
+/// The thread whose turn it is.
+pub fn resume_cursor(state: &State) -> ThreadId
     requires resumable { CanResume state.now }
     ensures { result ≡ thread_at_id state.now.cursor_pid state.now.cursor_tid }
 {

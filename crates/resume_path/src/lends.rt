@@ -90,8 +90,8 @@ fn resume_server_messages<W: SwapStore>(
     }
 }
 
-// The messages of all servers are there again. All pages are there before, without a loan.
-pub(crate) fn resume_messages<W: SwapStore>(
+/// The messages of all servers are there again. All pages are there before, without a loan.
+pub fn resume_messages<W: SwapStore>(
     mem: &mut Memory<W>,
     queues: &mut Queues,
     state: &State,

@@ -159,9 +159,9 @@ fn resume_server_orphans<W: SwapStore>(
     Ok(())
 }
 
-// The messages of all servers whose lender died are held again, and their orphans are there. Nothing else is there
-// before.
-pub(crate) fn resume_orphans<W: SwapStore>(
+/// The messages of all servers whose lender died are held again, and their orphans are there. Nothing else is there
+/// before.
+pub fn resume_orphans<W: SwapStore>(
     mem: &mut Memory<W>,
     queues: &mut Queues,
     state: &State,

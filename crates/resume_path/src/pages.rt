@@ -140,8 +140,8 @@ fn put_row<W: SwapStore>(mem: &mut Memory<W>, row: &PageRow, file: &[u8]) -> Res
     put_page(mem, row, file)
 }
 
-// The pages of a state are at their homes again, without a loan. Only the orphans stood before.
-pub(crate) fn resume_pages<W: SwapStore>(
+/// The pages of a state are at their homes again, without a loan. Only the orphans stood before.
+pub fn resume_pages<W: SwapStore>(
     mem: &mut Memory<W>,
     state: &State,
     file: &[u8],

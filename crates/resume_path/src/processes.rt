@@ -54,8 +54,8 @@ fn resume_process(procs: &mut Processes, pid: Pid, row: &ProcRow)
     connect_all(procs, pid, row.serials.as_slice());
 }
 
-// The processes of a state.
-pub(crate) fn resume_processes(alloc: Global, state: &State) -> Result<Processes, NoMemory>
+/// The processes of a state.
+pub fn resume_processes(alloc: Global, state: &State) -> Result<Processes, NoMemory>
     requires resumable { CanResume state.now }
     ensures procs { IfOk result (λ t. (pid : ℕ) → process_of (processes_of t pid) ≡ state_processes state.now.procs pid) }
     ensures count { IfOk result (λ t. process_count t ≡ state.now.n) }

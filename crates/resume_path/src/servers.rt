@@ -22,8 +22,8 @@ fn seat(row: &ServerRow) -> ServerSeat
     }
 }
 
-// The servers of a state in the order of their serials.
-pub(crate) fn server_seats(alloc: Global, state: &State) -> Result<Row<ServerSeat>, NoMemory>
+/// The servers of a state in the order of their serials.
+pub fn server_seats(alloc: Global, state: &State) -> Result<Row<ServerSeat>, NoMemory>
     requires resumable { CanResume state.now }
     ensures { IfOk result (λ seats. seats ≡ map row_seat state.now.servers) }
 {

@@ -57,8 +57,8 @@ fn empty_plan(alloc: Global, state: &State, slots: u32) -> Result<BootPlan, NoMe
     })
 }
 
-// A memory without a page for the machine of a state, of whose pages so many may stand in slots.
-pub(crate) fn empty_memory<W: SwapStore>(
+/// A memory without a page for the machine of a state, of whose pages so many may stand in slots.
+pub fn empty_memory<W: SwapStore>(
     alloc: Global,
     state: &State,
     slots: u32,

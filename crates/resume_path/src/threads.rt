@@ -63,8 +63,8 @@ fn start_thread(threads: &mut Threads, row: &ThreadRow)
     threads.start(id, thread);
 }
 
-// The threads of a state.
-pub(crate) fn resume_threads(alloc: Global, state: &State) -> Result<Threads, NoMemory>
+/// The threads of a state.
+pub fn resume_threads(alloc: Global, state: &State) -> Result<Threads, NoMemory>
     requires resumable { CanResume state.now }
     ensures threads { IfOk result (λ t. (id : Id) → option_map thread_of (threads_of t id) ≡ state_threads state.now.threads id) }
     ensures count { IfOk result (λ t. process_count t ≡ state.now.n) }

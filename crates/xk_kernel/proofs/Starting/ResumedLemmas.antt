@@ -1,8 +1,8 @@
 -- A kernel of the parts that were made again of a state.
 use Rattle.machine_model.specs.Runs.Matched.{Matched}
 use Rattle.machine_model.specs.State.Machine.{Machine}
-use Rattle.resume_path.specs.Resumed.{resumed_machine, resumed_parts}
-use Rattle.resume_path.specs.declared.resuming.Resumed.{Resumed}
+use Rattle.resume_machine.specs.Resumed.{resumed_machine, resumed_parts}
+use Rattle.resume_machine.specs.declared.resuming.Resumed.{Resumed}
 use Rattle.sv32_space.specs.Tie.{Held}
 use Rattle.xk_kernel.proofs.Memory.KnownLemmas.{matched_alike}
 use Rattle.xk_kernel.specs.Knowing.{ComesTo}

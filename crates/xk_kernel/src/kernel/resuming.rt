@@ -14,7 +14,7 @@ ghost use Rattle.xk_kernel.specs.Stepping.{last_of};
 ghost use Rattle.xk_ports.specs.Keeping.{KeepsStore};
 
 use crate::kernel::Kernel;
-use resume_path::{Resumed, resume};
+use resume_machine::{Resumed, resume};
 use std::alloc::Global;
 use suspend_image::State;
 use vm_memory::{BootError, BootFault};

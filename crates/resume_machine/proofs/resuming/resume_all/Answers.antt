@@ -1,7 +1,7 @@
-use Rattle.resume_path.proofs.Seated.MachineBackLemmas.{pages_stopped}
+use Rattle.resume_machine.proofs.MachineBackLemmas.{pages_stopped}
 use Rattle.resume_path.proofs.Homes.PutPageLemmas.{on_err}
 use Rattle.resume_path.specs.Messages.{IsStopped}
-use Rattle.resume_path.proofs.resuming.resume_all.Goals as goal
+use Rattle.resume_machine.proofs.resuming.resume_all.Goals as goal
 
 -- src/resuming.rt
 pub returns-in_err-resume_pages-clause-failed : goal.returns-in_err-resume_pages-clause-failed

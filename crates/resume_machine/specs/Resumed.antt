@@ -2,7 +2,7 @@
 use Rattle.std.specs.Prelude.{Some}
 use Rattle.std.specs.Option.{option_map}
 use Rattle.machine_model.specs.State.Machine.{Machine}
-use Rattle.resume_path.specs.declared.resuming.Resumed.{Resumed}
+use Rattle.resume_machine.specs.declared.resuming.Resumed.{Resumed}
 use Rattle.sv32_space.specs.Tie.{Held}
 use Rattle.vm_memory.specs.Memory.{processes}
 use Rattle.xk_parts.specs.Parts.{Beside, Parts, as_reservation, bare_machine, machine_over}

@@ -21,24 +21,20 @@ ghost use Rattle.resume_path.specs.Coming.{HasCome, KeepsSize};
 ghost use Rattle.resume_path.specs.Messages.{AreBack, IsStopped};
 ghost use Rattle.resume_path.specs.Resumable.{CanResume, CanSplit, IsResumable};
 ghost use Rattle.resume_path.specs.Resumable.{resumed_page_frames, resumed_size, state_ledger, state_pages};
-ghost use Rattle.resume_path.specs.Resumed.{resumed_machine, resumed_parts};
+ghost use Rattle.resume_machine.specs.Resumed.{resumed_machine, resumed_parts};
 ghost use Rattle.resume_path.specs.Tables.{row_seat};
 ghost use Rattle.xk_parts.specs.Comes.{ComesTo};
 ghost use Rattle.xk_parts.specs.Sound.{AreWhole};
 ghost use Rattle.xk_ports.specs.Keeping.{KeepsStore};
 
-use crate::claims::{resume_claims, resume_cursor, resume_reservation, resume_timer};
-use crate::lends::resume_messages;
-use crate::orphans::resume_orphans;
-use crate::pages::resume_pages;
-use crate::processes::resume_processes;
-use crate::servers::server_seats;
-use crate::sizes::empty_memory;
-use crate::threads::resume_threads;
 use irq_claims::Claims;
 use kill_path::close_all;
 use msg_queue::Queues;
 use process_table::Processes;
+use resume_path::{
+    empty_memory, resume_claims, resume_cursor, resume_messages, resume_orphans, resume_pages,
+    resume_processes, resume_reservation, resume_threads, resume_timer, server_seats,
+};
 use server_table::Servers;
 use std::alloc::Global;
 use suspend_image::State;

@@ -30,7 +30,7 @@ use Rattle.vm_memory.specs.declared.memory.Memory.{Memory}
 use Rattle.xk_base.specs.Tables.Circle.{is_pid, is_thread_id, is_tid}
 use Rattle.xk_base.specs.declared.ids.ThreadId.{ThreadId}
 use Rattle.xk_base.specs.declared.limits.TheConstants.{RECORD_LIMIT}
-use Rattle.resume_path.proofs.Seated.AllBackLemmas.{all_rows, servers_back, shown_all}
+use Rattle.resume_machine.proofs.AllBackLemmas.{all_rows, servers_back, shown_all}
 use Rattle.resume_path.proofs.Homes.FrameLemmas.{near_pages_fit}
 use Rattle.resume_path.proofs.Homes.PagesBackLemmas.{rose_over}
 use Rattle.resume_path.proofs.Seated.PartBackLemmas.{servers_part}
@@ -41,8 +41,8 @@ use Rattle.resume_path.specs.Messages.{AreBack, IsStopped, is_orphan_among, is_o
 use Rattle.resume_path.specs.Resumable.{CanSplit, IsResumable, resumed_page_frames, resumed_size, state_ledger, state_pages}
 use Rattle.resume_path.specs.Standing.{orphans_of, pages_before, standing_of}
 use Rattle.resume_path.specs.Tables.{row_seat}
-use Rattle.resume_path.specs.Resumed.{resumed_machine, resumed_parts}
-use Rattle.resume_path.specs.declared.resuming.Resumed.{Resumed}
+use Rattle.resume_machine.specs.Resumed.{resumed_machine, resumed_parts}
+use Rattle.resume_machine.specs.declared.resuming.Resumed.{Resumed}
 use Rattle.xk_parts.specs.Parts.{as_reservation}
 use Rattle.xk_parts.specs.Sound.{AreWhole}
 

@@ -5,7 +5,7 @@ use Rattle.server_table.specs.Listed.{HaveTwoSids, serials_of}
 use Rattle.server_table.specs.declared.table.ServerSeat.{ServerSeat}
 use Rattle.xk_base.specs.declared.limits.TheConstants.{SERVER_LIMIT}
 use Rattle.resume_path.proofs.Rows.SeatListLemmas.{seats_few, seats_given, seats_named, seats_rise}
-use Rattle.resume_path.proofs.resuming.tables.Goals as goal
+use Rattle.resume_machine.proofs.resuming.tables.Goals as goal
 
 -- src/resuming.rt
 pub resume-requires-clause-few : goal.resume-requires-clause-few

@@ -1,11 +1,11 @@
 use Rattle.std.proofs.Common.{◌≡◌, ap, arith, refl, ◌∙◌}
 use Rattle.xk_base.specs.Log.{LogState}
 use Rattle.xk_base.specs.declared.limits.TheConstants.{RECORD_LIMIT}
-use Rattle.resume_path.proofs.Seated.MachineBackLemmas.{IsResumed, means_known, resumed_comes, resumed_processes, resumed_whole, stopped_servers}
+use Rattle.resume_machine.proofs.MachineBackLemmas.{IsResumed, means_known, resumed_comes, resumed_processes, resumed_whole, stopped_servers}
 use Rattle.resume_path.specs.Resumable.{state_pages}
-use Rattle.resume_path.specs.declared.resuming.Resumed.{Resumed}
-use Rattle.resume_path.proofs.resuming.resume.Given.{Over}
-use Rattle.resume_path.proofs.resuming.resume.Goals as goal
+use Rattle.resume_machine.specs.declared.resuming.Resumed.{Resumed}
+use Rattle.resume_machine.proofs.resuming.resume.Given.{Over}
+use Rattle.resume_machine.proofs.resuming.resume.Goals as goal
 
 abbrev made : (g : Over) → goal.After-resume_reservation g → Resumed g.row.W.Denot
 made g c = record {

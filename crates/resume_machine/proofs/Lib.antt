@@ -1,0 +1,2 @@
+mod AllBackLemmas
+mod MachineBackLemmas
