@@ -26,7 +26,7 @@ def stale(commands: list[str]) -> Iterator[str]:
 
 
 def main(line: list[str]) -> int:
-    known = Parser("make-man", USAGE, DESCRIPTION, "tools/make-man /tmp/man && man -l /tmp/man/xousim.1")
+    known = Parser("make-man", USAGE, DESCRIPTION, "tools/make-man out/man && man -l out/man/xousim.1")
     known.add_argument("folder", metavar="FOLDER", nargs="?", type=pathlib.Path, help="the folder for the pages")
     known.add_argument("--check", action="store_true", help="print which pages can't be made")
     given = known.parse_args(line)

@@ -69,7 +69,7 @@ def make(folder: pathlib.Path) -> list[pathlib.Path]:
 
 
 def main(line: list[str]) -> int:
-    known = Parser("release", USAGE, DESCRIPTION, ".ci/run && tools/release /tmp/release")
+    known = Parser("release", USAGE, DESCRIPTION, ".ci/run && tools/release")
     known.add_argument("folder", metavar="FOLDER", nargs="?", type=pathlib.Path, help="the folder for the release; out/release if none is given")
     known.add_argument("--keep-gate", metavar="LOG", type=pathlib.Path, help="keep the record of the gate with this log")
     given = known.parse_args(line)
