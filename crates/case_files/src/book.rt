@@ -75,14 +75,17 @@ impl Book {
         Ok(self.rows.get(name)?.as_slice())
     }
 
+    /// Names a program of these words. An error if no memory is left.
     pub fn put_program(&mut self, alloc: Global, name: &str, words: Vec<u32>) -> Result<(), Wrong> {
         self.programs.put(alloc, name, words)
     }
 
+    /// Names a text of these bytes. An error if no memory is left.
     pub fn put_text(&mut self, alloc: Global, name: &str, bytes: Vec<u8>) -> Result<(), Wrong> {
         self.texts.put(alloc, name, bytes)
     }
 
+    /// Names a list of rows. An error if no memory is left.
     pub fn put_rows(&mut self, alloc: Global, name: &str, rows: Vec<String>) -> Result<(), Wrong> {
         self.rows.put(alloc, name, rows)
     }

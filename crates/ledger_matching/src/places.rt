@@ -25,6 +25,7 @@ const SHARED: u32 = 1;
 
 pub const CONSOLE: u32 = 4;
 
+/// Whether `pid` is one of `n` processes, which are numbered from 2.
 pub fn is_pid(n: u32, pid: u32) -> bool
     ensures { result ≡ is_pid_of n pid }
 {
@@ -74,6 +75,8 @@ fn is_page_placed(n: u32, page: &PageRow) -> bool
         && is_lent_writable(page)
 }
 
+/// Whether each page is placed: home and holder are among `n` processes, a page lent Exclusive is writable, and a console
+/// page is at the console's place.
 pub fn all_pages_placed(n: u32, pages: &[PageRow]) -> bool
     ensures { result ≡ list_all (is_page_placed_of n) pages.now }
 {
@@ -89,6 +92,7 @@ fn is_orphan_placed(n: u32, procs: &[ProcRow], orphan: &OrphanRow) -> bool
         && is_alive(procs, orphan.pid)
 }
 
+/// Whether each orphaned page is in the window of messages of a living process, one of `n`.
 pub fn all_orphans_placed(n: u32, procs: &[ProcRow], orphans: &[OrphanRow]) -> bool
     ensures { result ≡ list_all (is_orphan_placed_of n procs.now) orphans.now }
 {

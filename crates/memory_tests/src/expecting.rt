@@ -11,10 +11,12 @@ pub fn expect(rt: &impl Abort, is_so: bool) {
     assert!(rt; is_so);
 }
 
+/// What bytes were read.
 pub fn expect_bytes(rt: &impl Abort, told: &[u8], wanted: &[u8]) {
     assert_eq!(rt; told, wanted);
 }
 
+/// A word of memory, or a number.
 pub fn expect_word(rt: &impl Abort, told: u32, wanted: u32) {
     assert_eq!(rt; told, wanted);
 }
@@ -29,6 +31,7 @@ pub fn expect_read(rt: &impl Abort, told: Option<u32>, wanted: Option<u32>) {
     assert_eq!(rt; told, wanted);
 }
 
+/// What became of a store.
 pub fn expect_stored(rt: &impl Abort, told: Stored, wanted: Stored) {
     assert_eq!(rt; told, wanted);
 }

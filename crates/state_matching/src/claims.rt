@@ -30,6 +30,7 @@ fn is_claim_living(procs: &[ProcRow], claim: &ClaimRow) -> bool
     claim.number < INTERRUPT_LIMIT as u32 && is_alive(procs, claim.pid)
 }
 
+/// Whether each claim is of an interrupt below the limit, by a living process.
 pub fn all_claims_living(procs: &[ProcRow], claims: &[ClaimRow]) -> bool
     ensures { result ≡ list_all (is_claim_living_of procs.now) claims.now }
 {

@@ -89,6 +89,7 @@ fn all_lead_below(serial: u32, procs: &[ProcRow]) -> bool
     procs.iter().all(|process| leads_below(serial, process))
 }
 
+/// Whether the next number and the next serial are above all that servers and connections have.
 pub fn all_are_below(number: u32, serial: u32, procs: &[ProcRow], servers: &[ServerRow]) -> bool
     ensures { result ≡ (list_all (is_below_next_of number serial) servers.now && list_all (leads_below_of serial) procs.now) }
 {

@@ -110,6 +110,7 @@ fn is_thread_living(n: u32, procs: &[ProcRow], thread: &ThreadRow) -> bool
         && is_alive(procs, thread.pid)
 }
 
+/// Whether each thread is one of a living process among `n`, with a number within the limit.
 pub fn all_threads_living(n: u32, procs: &[ProcRow], threads: &[ThreadRow]) -> bool
     ensures { result ≡ list_all (is_thread_living_of n procs.now) threads.now }
 {

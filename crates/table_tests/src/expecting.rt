@@ -9,18 +9,22 @@ pub fn expect(rt: &impl Abort, is_so: bool) {
     assert!(rt; is_so);
 }
 
+/// Which thread it is, if any.
 pub fn expect_thread(rt: &impl Abort, told: Option<ThreadId>, wanted: Option<ThreadId>) {
     assert_eq!(rt; told, wanted);
 }
 
+/// Which thread of a process it is, if any.
 pub fn expect_tid(rt: &impl Abort, told: Option<Tid>, wanted: Option<Tid>) {
     assert_eq!(rt; told, wanted);
 }
 
+/// Which server it is, if any.
 pub fn expect_serial(rt: &impl Abort, told: Option<Serial>, wanted: Option<Serial>) {
     assert_eq!(rt; told, wanted);
 }
 
+/// Which process it is, if any.
 pub fn expect_pid(rt: &impl Abort, told: Option<Pid>, wanted: Option<Pid>) {
     assert_eq!(rt; told, wanted);
 }

@@ -36,6 +36,8 @@ pub struct Reserved {
     pub address: u32,
 }
 
+/// Reads the numbers at the front of a state, and returns the rest.
+/// `Broken` if one is missing or out of its bounds.
 #[tactic(auto, unfolding(crate::specs::Rows::numbers_at))]
 pub fn front_numbers(bytes: &[u8]) -> Result<(Numbers, &[u8]), Broken>
     ensures { Gives (λ x. (x.0, x.1.now)) result (numbers_at bytes.now) }
@@ -59,6 +61,8 @@ pub fn front_numbers(bytes: &[u8]) -> Result<(Numbers, &[u8]), Broken>
     Ok((numbers, rest))
 }
 
+/// Reads the timer, and returns the rest.
+/// `Broken` if a word is missing or out of its bounds.
 #[tactic(auto, unfolding(crate::specs::Rows::timer_at))]
 pub fn front_timer(bytes: &[u8]) -> Result<(Timer, &[u8]), Broken>
     ensures { Gives (λ x. (x.0, x.1.now)) result (timer_at bytes.now) }
@@ -68,6 +72,8 @@ pub fn front_timer(bytes: &[u8]) -> Result<(Timer, &[u8]), Broken>
     Ok((Timer { armed, compare }, rest))
 }
 
+/// Reads the reservation of a machine of `n` processes, and returns the rest.
+/// `Broken` if a word is missing or out of its bounds.
 #[tactic(auto, unfolding(crate::specs::Rows::reserved_at))]
 pub fn front_reserved(n: u32, bytes: &[u8]) -> Result<(Reserved, &[u8]), Broken>
     ensures { Gives (λ x. (x.0, x.1.now)) result (reserved_at n bytes.now) }
