@@ -1,34 +1,29 @@
 -- An instruction leaves what is another's.
-use Rattle.std.proofs.Common.{◌≡◌, ◌≢◌, ℕ, ◌+◌, Bool, true, false, ◌⊎◌, inl, inr, List, Option, Some, None, refl, sym, ap, ◌∙◌, subst}
-use Rattle.std.specs.Prelude.{nat_eq, if◌then◌else◌, ◌%◌}
+use Rattle.std.proofs.Common.{◌≡◌, ◌≢◌, ℕ, Bool, true, false, ◌⊎◌, inl, inr, Option, Some, None, refl, sym, ap, ◌∙◌, subst}
+use Rattle.std.specs.Prelude.{nat_eq, if◌then◌else◌}
 use Rattle.std.specs.Option.{option_and_then, option_map, option_map_or}
 use Rattle.std.proofs.lemmas.Bool.{and_parts, eqb-true, false≢true}
-use Rattle.std.proofs.lemmas.Option.{none-some, same_Some}
 use Rattle.xk_base.specs.declared.ids.Pid.{Pid}
 use Rattle.xk_base.specs.declared.ids.Place.{Place}
 use Rattle.xk_base.specs.declared.ids.ThreadId.{ThreadId}
 use Rattle.xk_base.specs.declared.limits.TheConstants.{TIMER_INTERRUPT}
-use Rattle.xk_base.specs.declared.pages.Access.TheVariants.{Load, Store}
 use Rattle.xk_base.specs.Tables.Circle.{same_thread}
 use Rattle.xk_base.specs.Tables.Counting.{put_at}
 use Rattle.ledger_model.specs.Ledger.{Homed, Ledger, Orphaned, PageName, contents_of}
 use Rattle.ledger_model.specs.Loans.{bare}
 use Rattle.ledger_model.specs.Places.{same_place}
-use Rattle.ledger_model.specs.Reach.{reach}
 use Rattle.ledger_model.specs.Steps.{write}
 use Rattle.ledger_model.proofs.PlaceLemmas.{same_place-refl, same_place-true}
 use Rattle.ledger_model.proofs.ReachingLemmas.{write_others}
 use Rattle.ledger_model.proofs.Stepping.WritingLemmas.{write_bare}
 use Rattle.machine_model.specs.Hart.Instructions.{CallsKernel, Executed, Next, Stores, StoresToConsole, StoresToTimer, Traps}
 use Rattle.machine_model.specs.Runs.Isolation.{IsOneStore}
-use Rattle.machine_model.specs.Runs.Matched.{Matched}
 use Rattle.machine_model.specs.State.Changes.{settled}
 use Rattle.machine_model.specs.State.Machine.{Claim, Machine, Thread}
-use Rattle.machine_model.specs.State.Order.{actor}
 use Rattle.machine_model.specs.State.Threads.{thread_id, with_answer, with_registers}
 use Rattle.machine_model.specs.State.Views.{stored, timer_set}
 use Rattle.machine_model.specs.Stepping.Acts.{does_instruction, executes, is_instruction}
-use Rattle.machine_model.specs.Stepping.Interrupts.{delivered, delivered_lowest, handler_started, is_free_for_interrupt, lowest_pending, with_handler_next}
+use Rattle.machine_model.specs.Stepping.Interrupts.{delivered, delivered_lowest, handler_started, is_claim_of, is_free_for_interrupt, lowest_pending, with_handler_next}
 use Rattle.machine_model.specs.Stepping.Step.{acted, counted, executed, step}
 use Rattle.machine_model.specs.Stepping.Timer.{is_due, raised_by_timer, timed, timed_if}
 use Rattle.machine_model.specs.State.Changes.{Told}
@@ -36,7 +31,8 @@ use Rattle.machine_model.proofs.Runs.TimerLemmas.{timed_raised}
 use Rattle.machine_laws.proofs.Executing.InstructionStepLemmas.{instruction_stores}
 use Rattle.machine_laws.proofs.Stepping.StepKindLemmas.{acted_as_executed}
 use Rattle.machine_laws.proofs.Threading.ThreadStepLemmas.{step_of_thread, turned_to}
-use Rattle.integrity_laws.specs.Integrity.{InstructionLeavesOthers, IsLoadedByOther, LeavesOthers, is_of_timer}
+use Rattle.integrity_laws.specs.Integrity.{InstructionLeavesOthers, IsLoadedByOther, is_of_timer}
+use Rattle.integrity_laws.proofs.PendingLemmas.{not_of_claimant, timed_pending}
 use Rattle.integrity_laws.proofs.ReachedPageLemmas.{stored_alone}
 
 -- ---- the timer
@@ -161,11 +157,18 @@ is_done m who d = go (m.threads who) refl d
     go (Some t) q r = of_thread t q (executes m who t) refl r
 
 -- what an instruction leaves before the timer
-record Leaves (who : ThreadId) (m after : Machine) : Type 0 where
-  threads : (id : ThreadId) → same_thread id who ≡ false → after.threads id ≡ m.threads id
-  process : after.process ≡ m.process
-  servers : after.servers ≡ m.servers
-  claims : after.claims ≡ m.claims
+pub record Leaves (who : ThreadId) (m after : Machine) : Type 0 where
+  pub threads : (id : ThreadId) → same_thread id who ≡ false → after.threads id ≡ m.threads id
+  pub process : after.process ≡ m.process
+  pub servers : after.servers ≡ m.servers
+  pub claims : after.claims ≡ m.claims
+  pub pending : after.pending ≡ m.pending
+
+-- .. and the thread that does it
+pub record LeftBefore (m : Machine) (who : ThreadId) : Type 0 where
+  pub thread : Thread
+  pub there : m.threads who ≡ Some thread
+  pub left : Leaves who m (acted (turned_to who m) thread).machine
 
 module _ (m : Machine) (who : ThreadId) (t : Thread) where
   put_other : (change : Thread → Thread) (id : ThreadId) → same_thread id who ≡ false
@@ -175,13 +178,13 @@ module _ (m : Machine) (who : ThreadId) (t : Thread) where
   executed_leaves : (x : Executed) → is_instruction x ≡ true → Leaves who m (executed (turned_to who m) t x).machine
   unfolding stored timer_set
   executed_leaves (Next regs pc) i =
-      record { threads = put_other (with_registers regs pc); process = refl; servers = refl; claims = refl }
+      record { threads = put_other (with_registers regs pc); process = refl; servers = refl; claims = refl; pending = refl }
   executed_leaves (Stores address width value regs pc) i =
-      record { threads = put_other (with_registers regs pc); process = refl; servers = refl; claims = refl }
+      record { threads = put_other (with_registers regs pc); process = refl; servers = refl; claims = refl; pending = refl }
   executed_leaves (StoresToConsole offset value regs pc) i =
-      record { threads = put_other (with_registers regs pc); process = refl; servers = refl; claims = refl }
+      record { threads = put_other (with_registers regs pc); process = refl; servers = refl; claims = refl; pending = refl }
   executed_leaves (StoresToTimer offset width value regs pc) i =
-      record { threads = put_other (with_registers regs pc); process = refl; servers = refl; claims = refl }
+      record { threads = put_other (with_registers regs pc); process = refl; servers = refl; claims = refl; pending = refl }
   executed_leaves CallsKernel i = absurd (false≢true i)
   executed_leaves (Traps cause value) i = absurd (false≢true i)
 
@@ -195,6 +198,18 @@ other_thread id who other = go (same_thread id who) refl
         let same : id.pid.0 ≡ who.pid.0 = eqb-true id.pid.0 who.pid.0 (and_parts (nat_eq id.pid.0 who.pid.0) (nat_eq id.tid.0 who.tid.0) e).0 in
         absurd (other (λ i. record { 0 = same i }))
 
+pub left_before : (m : Machine) (who : ThreadId) → does_instruction m who ≡ true → LeftBefore m who
+left_before m who does = record {
+  thread = by.thread;
+  there = by.there;
+  left =
+      subst (λ (told : Told). Leaves who m told.machine) (sym (acted_as_executed m who by.thread by.executed by.does))
+      (executed_leaves m who by.thread by.executed by.is);
+}
+  where
+    by : IsDone m who
+    by = is_done m who does
+
 pub instruction_leaves : InstructionLeavesOthers
 instruction_leaves m who h acts does = record {
   pages = pages_kept who.pid m (step m).machine.ledger stores;
@@ -206,21 +221,28 @@ instruction_leaves m who h acts does = record {
   process = ap (λ (x : Machine). x.process) stepped ∙ left.process;
   servers = ap (λ (x : Machine). x.servers) stepped ∙ left.servers;
   claims = ap (λ (x : Machine). x.claims) stepped ∙ left.claims;
+  pending = λ k claim there untimed.
+      ap (λ (x : Machine). x.pending k) is
+      ∙ (timed_pending done k claim (ap (λ (f : ℕ → Option Claim). f k) left.claims ∙ there) (not_timer claim untimed)
+      ∙ ap (λ (f : ℕ → Bool). f k) left.pending);
 }
   where
     stores : ((step m).machine.ledger ≡ m.ledger) ⊎ IsOneStore who.pid m (step m).machine.ledger
     stores = instruction_stores m who h acts does
 
-    by : IsDone m who
-    by = is_done m who does
+    by : LeftBefore m who
+    by = left_before m who does
 
     left : Leaves who m (acted (turned_to who m) by.thread).machine
-    left =
-        subst (λ (told : Told). Leaves who m told.machine) (sym (acted_as_executed m who by.thread by.executed by.does))
-        (executed_leaves m who by.thread by.executed by.is)
+    left = by.left
 
     done : Told
     done = counted (turned_to who m) (Some by.thread) (acted (turned_to who m) by.thread)
+
+    not_timer : (claim : Claim) → is_of_timer m (thread_id claim.pid 1) ≡ false → is_claim_of claim.pid (done.machine.claims TIMER_INTERRUPT) ≡ false
+    not_timer claim untimed =
+        ap (λ (f : ℕ → Option Claim). is_claim_of claim.pid (f TIMER_INTERRUPT)) left.claims
+        ∙ not_of_claimant claim.pid (m.claims TIMER_INTERRUPT) untimed
 
     is : (step m).machine ≡ (timed done).machine
     is = step_of_thread m who by.thread acts by.there

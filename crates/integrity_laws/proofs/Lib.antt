@@ -1,2 +1,3 @@
 pub mod InstructionLemmas
+pub mod PendingLemmas
 pub mod ReachedPageLemmas

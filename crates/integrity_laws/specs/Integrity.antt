@@ -11,7 +11,7 @@ use Rattle.ledger_model.specs.Ledger.{Ledger, PageName, contents_of}
 use Rattle.ledger_model.specs.Loans.{bare}
 use Rattle.ledger_model.specs.Reach.{reach}
 use Rattle.machine_model.specs.Runs.Matched.{Matched}
-use Rattle.machine_model.specs.State.Machine.{Machine}
+use Rattle.machine_model.specs.State.Machine.{Claim, Machine}
 use Rattle.machine_model.specs.State.Order.{actor}
 use Rattle.machine_model.specs.State.Threads.{thread_id}
 use Rattle.machine_model.specs.Stepping.Acts.{does_instruction}
@@ -51,6 +51,9 @@ pub record LeavesOthers (pid : Pid) (m after : Machine) : Type 0 where
   pub servers : after.servers ≡ m.servers
   -- all claims
   pub claims : after.claims ≡ m.claims
+  -- which numbers are pending, but for those of the process whose handler the timer may start
+  pub pending : (k : ℕ) (claim : Claim) → m.claims k ≡ Some claim → is_of_timer m (thread_id claim.pid 1) ≡ false
+      → after.pending k ≡ m.pending k
 
 -- an instruction leaves all that is another's
 abbrev pub InstructionLeavesOthers : Type 0

@@ -11,7 +11,7 @@ pub fn page_is_stored_by_one_alone()
 
 /// **An instruction leaves all that is another's**: where pages are, their rights and loans; each byte that another process can load at
 /// that moment; each thread of another, but for tid 1 of the process that claimed the timer's interrupt; all processes, servers,
-/// messages and claims.
+/// messages and claims; and which numbers are pending, but for those of that process.
 pub fn instruction_leaves_others()
     ensures { InstructionLeavesOthers }
 {}

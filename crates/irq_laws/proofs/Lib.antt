@@ -1,7 +1,16 @@
 pub mod BalanceLemmas
+pub mod BusyDeliveryLemmas
+pub mod BusyRunLemmas
 pub mod CallQuietLemmas
 pub mod DeliveryLemmas
+pub mod EvenChangeLemmas
+pub mod EvenMomentLemmas
+pub mod EvenRunLemmas
+pub mod IdleCallLemmas
+pub mod IdleLemmas
+pub mod KeptPendingLemmas
 pub mod MomentLemmas
+pub mod OneDeliveryLemmas
 pub mod QuietLemmas
 pub mod RunLemmas
 pub mod StartingLemmas

@@ -1,10 +1,10 @@
 -- What an event `irq` starts.
-use Rattle.std.proofs.Common.{◌≡◌, ℕ, ◌⊎◌, Bool, true, false, List, [], ◌∷◌, ◌++◌, map, Option, Some, None, nat_eq, refl, sym, ap, ◌∙◌, inl, inr, arith}
+use Rattle.std.proofs.Common.{◌≡◌, ℕ, ◌<◌, ◌⊎◌, Bool, true, false, List, [], ◌∷◌, ◌++◌, map, Option, Some, None, nat_eq, refl, sym, ap, ◌∙◌, inl, inr, arith}
 use Rattle.std.specs.Prelude.{◌&&◌, is_some, unwrap_or, if◌then◌else◌}
 use Rattle.std.specs.List.{All}
-use Rattle.std.proofs.lemmas.Bool.{and_parts, eqb-true, false≢true}
+use Rattle.std.proofs.lemmas.Bool.{and_from, and_parts, eq-eqb, eqb-true, false≢true}
 use Rattle.xk_base.proofs.CircleLemmas.{listed_ids-passes}
-use Rattle.xk_base.proofs.CountingLemmas.{least_below-passes}
+use Rattle.xk_base.proofs.CountingLemmas.{least_below-none, least_below-passes}
 use Rattle.xk_base.specs.declared.ids.Pid.{Pid}
 use Rattle.xk_base.specs.declared.ids.ThreadId.{ThreadId}
 use Rattle.xk_base.specs.declared.limits.TheConstants.{INTERRUPT_LIMIT}
@@ -20,7 +20,7 @@ use Rattle.machine_model.specs.Stepping.Events.{at_event, raised, raised_if}
 use Rattle.machine_model.specs.Stepping.Interrupts.{delivered, delivered_lowest, handler_started, is_claim_of, is_free_for_interrupt, lowest_pending, with_handler_next}
 use Rattle.machine_model.specs.Stepping.Reservations.{unreserved}
 use Rattle.machine_model.specs.Stepping.Step.{Recorded, record_of}
-use Rattle.irq_laws.specs.Starting.{IrqStartsOneOrNothing, StartsHandler, StartsNothing}
+use Rattle.irq_laws.specs.Starting.{IrqStartsIfFree, IrqStartsOneOrNothing, StartsClaimant, StartsHandler, StartsNothing}
 
 -- ---- a change that answers nobody and ends nothing
 
@@ -109,6 +109,21 @@ module _ (k : ℕ) (m : Machine) (claim : Claim) (claimed : m.claims k ≡ Some 
       told = ap (λ (r : Recorded). r.records) is ∙ ap (λ p. record_of m.steps (Irq p n) ∷ []) (sym due.2);
     }
 
+  -- the number is due, so there is a lowest one
+  found : k < INTERRUPT_LIMIT → is_free_for_interrupt next pid ≡ true → StartsClaimant m k claim
+  unfolding lowest_pending handler_starts due
+  found below free = go (lowest_pending next pid) refl
+    where
+      is_due : (next.pending k && is_claim_of pid (m.claims k)) ≡ true
+      is_due =
+          and_from (next.pending k) (is_claim_of pid (m.claims k)) (ap (λ b. if b then true else m.pending k) (eq-eqb k k refl))
+          (ap (is_claim_of pid) claimed ∙ eq-eqb pid.0 pid.0 refl)
+
+      go : (o : Option ℕ) → lowest_pending next pid ≡ o → StartsClaimant m k claim
+      go (Some n) e = record { handler = handler_starts free n e; own = (due free n e).2 }
+      go None e =
+          absurd (false≢true (sym (least_below-none INTERRUPT_LIMIT (λ j. next.pending j && is_claim_of pid (m.claims j)) e k below) ∙ is_due))
+
   not_delivered : (if is_free_for_interrupt next pid then lowest_pending next pid else None) ≡ None → delivered pid next ≡ starting next None
   unfolding delivered
   not_delivered e = ap (delivered_lowest next pid) e
@@ -135,3 +150,10 @@ irq_starts_one_or_nothing k m = go (m.claims k) refl
       told = ap (λ (r : Recorded). r.records) (unclaimed k m e);
     })
     go (Some claim) e = of_claim k m claim e
+
+pub starts_below : (k : ℕ) (m : Machine) (claim : Claim) → k < INTERRUPT_LIMIT → m.claims k ≡ Some claim
+    → is_free_for_interrupt m claim.pid ≡ true → StartsClaimant m k claim
+starts_below k m claim below claimed free = found k m claim claimed below free
+
+pub irq_starts_if_free : IrqStartsIfFree
+irq_starts_if_free k m claim h claimed free = starts_below k m claim (h.rest.claims.numbers k claim claimed) claimed free

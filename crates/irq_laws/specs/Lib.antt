@@ -1,2 +1,4 @@
+pub mod Balance
+pub mod Busy
 pub mod Delivering
 pub mod Starting

@@ -1,6 +1,7 @@
 -- What an event `irq` does: it starts one handler, or nothing that can be seen.
 use Rattle.std.specs.Prelude.{◌≡◌, ℕ, true, ◌⊎◌, [], ◌∷◌, Some}
 use Rattle.xk_base.specs.declared.records.What.TheVariants.{Irq}
+use Rattle.machine_model.specs.Runs.Matched.{Matched}
 use Rattle.machine_model.specs.State.Machine.{Claim, Machine}
 use Rattle.machine_model.specs.State.Threads.{handler_thread, thread_id}
 use Rattle.machine_model.specs.Stepping.Events.{raised}
@@ -27,3 +28,14 @@ pub record StartsNothing (m : Machine) (k : ℕ) : Type 0 where
 -- The cursor moves with an event `irq` only where a handler starts.
 abbrev pub IrqStartsOneOrNothing : Type 0
 IrqStartsOneOrNothing = (k : ℕ) (m : Machine) → StartsHandler m k ⊎ StartsNothing m k
+
+-- The handler that the event starts is one of the process that claimed the number.
+pub record StartsClaimant (m : Machine) (k : ℕ) (claim : Claim) : Type 0 where
+  pub handler : StartsHandler m k
+  pub own : handler.claim.pid ≡ claim.pid
+
+-- It starts one if the number is claimed and the interrupt thread of that process is Idle.
+abbrev pub IrqStartsIfFree : Type 0
+IrqStartsIfFree =
+    (k : ℕ) (m : Machine) (claim : Claim) → Matched m → m.claims k ≡ Some claim → is_free_for_interrupt m claim.pid ≡ true
+    → StartsClaimant m k claim

@@ -1,3 +1,4 @@
 mod HistoryLemmas
+mod InterruptLemmas
 mod OrderLemmas
 mod ReservedLemmas

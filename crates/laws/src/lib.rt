@@ -23,13 +23,16 @@ ghost use Rattle.isolation_laws.specs.Differences.{DifferencesComeFromTheStart, 
 ghost use Rattle.isolation_laws.specs.TwoRuns.{RunsAreSameButBytes, RunsTellTheSame};
 ghost use Rattle.timer_laws.specs.Raising.{RaiseFindsClaim};
 ghost use Rattle.timer_laws.specs.TimerLaw.{ArmingsAreMoments, TimerHolds, TimerLaw};
+ghost use Rattle.irq_laws.specs.Balance.{NoInterruptIsLost};
+ghost use Rattle.irq_laws.specs.Busy.{PendingStaysBusy, StartsBusy};
 ghost use Rattle.irq_laws.specs.Delivering.{DeliveredAtMostOnce, PendingAreClaimed, deliveries, once_if, raises};
-ghost use Rattle.irq_laws.specs.Starting.{IrqStartsOneOrNothing};
+ghost use Rattle.irq_laws.specs.Starting.{IrqStartsIfFree, IrqStartsOneOrNothing};
 ghost use Rattle.machine_history.specs.History.{behind, history, reached, stopped};
 ghost use Rattle.machine_history.specs.HistoryMoments.{moments_of};
 ghost use Rattle.machine_history.specs.Interleaving.{AreReadyInTurn, picks_and_ticks, steps_in_turn};
 ghost use Rattle.machine_history.specs.Reserved.{IsReservedByThread};
 ghost use Rattle.isolation_laws.specs.TwoHistories.{StartSideBySide, TellTheSame};
+ghost use Rattle.laws.specs.Interrupts.{HistoriesAreBalanced, IdleAtTheEnd, IdleSinceBoot, IdleSinceBusy};
 ghost use Rattle.laws.specs.Standing.{EveryReservationHolds, IsReservedBefore};
 
 /// **Every state is matched.** The state in which a machine starts has the invariant, and so has every state of every run and of every
@@ -128,6 +131,25 @@ pub fn interrupts_are_delivered_once()
         ≤ raises k start (moments_of events limit start) + once_if (start.pending k) }
     ensures claimed { PendingAreClaimed }
     ensures starts { IrqStartsOneOrNothing }
+{}
+
+/// **No interrupt is lost.** What was pending at the start and each raise since is delivered, merges with one that is pending, is given
+/// up as the claim ends, or is pending at the end. An event `irq` of a claimed number starts a handler of the process that claimed it if
+/// its interrupt thread is Idle.
+pub fn no_interrupt_is_lost()
+    ensures runs { NoInterruptIsLost }
+    ensures histories { HistoriesAreBalanced }
+    ensures free { IrqStartsIfFree }
+{}
+
+/// **Idle means nothing pending.** From the start of a machine on, an interrupt thread that waits for an interrupt has no pending number
+/// of its process. It stays so from every matched state in which it is so.
+pub fn idle_means_nothing_pending()
+    ensures start { StartsBusy }
+    ensures runs { PendingStaysBusy }
+    ensures histories { IdleSinceBusy }
+    ensures boot { IdleSinceBoot }
+    ensures last { IdleAtTheEnd }
 {}
 
 /// **The reservation.** Between an LR and the SC that succeeds on it, only that thread did steps. A start that has a reservation, as that

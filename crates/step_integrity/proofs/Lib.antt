@@ -12,4 +12,3 @@ pub mod PlainPartLemmas
 pub mod ServerLemmas
 pub mod StepLemmas
 pub mod ThreadLemmas
-pub mod TimerLemmas

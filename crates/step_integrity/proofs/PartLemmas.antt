@@ -20,6 +20,7 @@ use Rattle.machine_model.proofs.Runs.TimerLemmas.{timed_raised}
 use Rattle.machine_laws.proofs.Threading.ThreadStepLemmas.{step_of_thread, turned_to}
 use Rattle.integrity_laws.specs.Integrity.{is_of_timer}
 use Rattle.integrity_laws.proofs.InstructionLemmas.{other_thread, timed_other}
+use Rattle.integrity_laws.proofs.PendingLemmas.{timed_pending}
 use Rattle.step_integrity.specs.Fates.{Doing, OrphanStays, PageStays, ServerStays, ThreadFate, ThreadStays}
 use Rattle.step_integrity.specs.KeptOthers.{KeepsOthers, claims_timer}
 use Rattle.step_integrity.proofs.AnswerLemmas.{answered_fate}
@@ -28,7 +29,6 @@ use Rattle.step_integrity.proofs.PageLemmas.{KeepsPages}
 use Rattle.step_integrity.proofs.PlainPartLemmas.{KeepsClaims, KeepsPending, KeepsProcesses}
 use Rattle.step_integrity.proofs.ServerLemmas.{KeepsServers}
 use Rattle.step_integrity.proofs.ThreadLemmas.{KeepsThreads}
-use Rattle.step_integrity.proofs.TimerLemmas.{timed_pending}
 
 -- ---- all parts of a change, before the timer
 

@@ -1,7 +1,7 @@
 -- Faults, ends of threads and of handlers, kills, and every other cause keep what is another's.
 use Rattle.std.proofs.Common.{◌≡◌, ◌≢◌, ℕ, Bool, ◌&&◌, true, false, [], Option, Some, None, refl, sym, ap, ◌∙◌, subst}
 use Rattle.std.specs.Prelude.{nat_eq, if◌then◌else◌}
-use Rattle.std.specs.Option.{option_map, option_map_or, option_or}
+use Rattle.std.specs.Option.{option_and_then, option_map, option_map_or, option_or}
 use Rattle.std.proofs.lemmas.Bool.{false≢true}
 use Rattle.xk_base.specs.declared.ids.Pid.{Pid}
 use Rattle.xk_base.specs.declared.ids.ThreadId.{ThreadId}
@@ -17,24 +17,25 @@ use Rattle.machine_model.specs.State.Changes.{Change, settled}
 use Rattle.machine_model.specs.State.Machine.{Claim, Idle, Machine, Thread}
 use Rattle.machine_model.specs.State.Order.{actor, turn}
 use Rattle.machine_model.specs.State.Threads.{put_thread, thread_id, with_state}
-use Rattle.machine_model.specs.Stepping.Acts.{does_instruction, executes}
+use Rattle.machine_model.specs.Stepping.Acts.{does_instruction, executes, words_if_call}
 use Rattle.machine_model.specs.Stepping.Events.{killed, killed_if, picked, raised, raised_if}
 use Rattle.machine_model.specs.Stepping.Interrupts.{delivered, delivered_lowest, handler_started, is_claim_of, is_free_for_interrupt, lowest_pending}
 use Rattle.machine_model.specs.Stepping.Reservations.{unreserved}
-use Rattle.machine_model.specs.Stepping.Step.{ends_handler, performed, step}
+use Rattle.machine_model.specs.Stepping.Step.{acted, ends_handler, performed, step}
 use Rattle.machine_model.proofs.Runs.TimerLemmas.{pended_raised}
 use Rattle.machine_laws.proofs.Stepping.StepKindLemmas.{Executes, HandlerEnds, StepKind, ThreadEnds, acted_as_executed, is_call, is_done, kind_of}
-use Rattle.machine_laws.proofs.Threading.ThreadStepLemmas.{then_acted, turned_to}
+use Rattle.machine_laws.proofs.Threading.ThreadAnswerLemmas.{same_thread-self}
+use Rattle.machine_laws.proofs.Threading.ThreadStepLemmas.{acted_call, then_acted, turned_to}
 use Rattle.integrity_laws.proofs.InstructionLemmas.{delivery_other, instruction_leaves, other_thread, unanswered}
+use Rattle.integrity_laws.proofs.PendingLemmas.{lowest_claimed, pended_pending, started_pending}
 use Rattle.step_integrity.specs.Causes.{AllKeepOthers, LeavesAll, by_kill, by_step, is_of_claimant}
 use Rattle.step_integrity.specs.Fates.{Doing, MadeCall}
-use Rattle.step_integrity.specs.KeptOthers.{KeepsOthers}
+use Rattle.step_integrity.specs.KeptOthers.{KeepsOthers, by_call}
 use Rattle.step_integrity.proofs.AnswerLemmas.{either_why, not_why}
-use Rattle.step_integrity.proofs.CallLemmas.{call_keeps}
+use Rattle.step_integrity.proofs.CallLemmas.{called_parts}
 use Rattle.step_integrity.proofs.DeathLemmas.{dead_claims, dead_pages, dead_pending, dead_processes, dead_servers, dead_threads}
 use Rattle.step_integrity.proofs.OtherLemmas.{apart_pid}
 use Rattle.step_integrity.proofs.PartLemmas.{KeepsChange, KeepsParts, LeavesParts, left_parts, settled_parts, step_others}
-use Rattle.step_integrity.proofs.TimerLemmas.{lowest_claimed, started_pending}
 
 -- ---- deaths
 
@@ -161,11 +162,22 @@ module _ (m : Machine) (h : Matched m) (who : ThreadId) (call : Option MadeCall)
 
 -- ---- steps
 
-step_keeps : (m : Machine) (who : ThreadId) → Matched m → actor m ≡ Some who → does_instruction m who ≡ false
-    → KeepsOthers (by_step who m) (step m).machine
-step_keeps m who h acts none = go (kind_of m who acts)
+-- what a step that isn't an instruction does before the timer: it keeps all that is another's
+pub record BeforeTimer (m : Machine) (who : ThreadId) : Type 0 where
+  pub thread : Thread
+  pub there : m.threads who ≡ Some thread
+  pub keeps : KeepsParts (by_step who m) (acted (turned_to who m) thread).machine
+
+pub step_before : (m : Machine) (who : ThreadId) → Matched m → actor m ≡ Some who → does_instruction m who ≡ false → BeforeTimer m who
+step_before m who h acts none = go (kind_of m who acts)
   where
-    executed_keeps : (t : Thread) (x : Executed) → m.threads who ≡ Some t → executes m who t ≡ Some x → KeepsOthers (by_step who m) (step m).machine
+    call_parts : (t : Thread) → executes m who t ≡ Some CallsKernel
+        → KeepsParts (by_call who (arguments_of t.regs) m) (acted (turned_to who m) t).machine
+    call_parts t e =
+        subst (KeepsParts (by_call who (arguments_of t.regs) m)) (sym (acted_call m who (arguments_of t.regs) t (ap (option_and_then (words_if_call t)) e)))
+        (called_parts m h who (arguments_of t.regs))
+
+    executed_keeps : (t : Thread) (x : Executed) → m.threads who ≡ Some t → executes m who t ≡ Some x → BeforeTimer m who
     executed_keeps t (Next regs pc) there e = absurd (false≢true (sym none ∙ is_done m who t there (Next regs pc) e refl))
     executed_keeps t (Stores address width value regs pc) there e =
         absurd (false≢true (sym none ∙ is_done m who t there (Stores address width value regs pc) e refl))
@@ -173,26 +185,46 @@ step_keeps m who h acts none = go (kind_of m who acts)
         absurd (false≢true (sym none ∙ is_done m who t there (StoresToConsole offset value regs pc) e refl))
     executed_keeps t (StoresToTimer offset width value regs pc) there e =
         absurd (false≢true (sym none ∙ is_done m who t there (StoresToTimer offset width value regs pc) e refl))
-    executed_keeps t CallsKernel there e =
-        let calls = is_call m who t there e in
-        subst (λ c. KeepsOthers (record { pid = who.pid; call = option_map (λ words. record { who = who; words = words }) c; before = m }) (step m).machine)
-        (sym calls) (call_keeps m who (arguments_of t.regs) h acts calls)
-    executed_keeps t (Traps cause value) there e =
-        step_others (by_step who m) m who t acts there
-        (subst (λ told. KeepsParts (by_step who m) told.machine) (sym (acted_as_executed m who t (Traps cause value) e))
-        (settled_parts (by_step who m) (death who.pid (turned_to who m)) (died m h who (by_step who m).call m.threads (λ id other. refl))))
+    executed_keeps t CallsKernel there e = record {
+      thread = t;
+      there = there;
+      keeps =
+          subst
+          (λ c. KeepsParts (record { pid = who.pid; call = option_map (λ words. record { who = who; words = words }) c; before = m })
+          (acted (turned_to who m) t).machine)
+          (sym (is_call m who t there e)) (call_parts t e);
+    }
+    executed_keeps t (Traps cause value) there e = record {
+      thread = t;
+      there = there;
+      keeps =
+          subst (λ told. KeepsParts (by_step who m) told.machine) (sym (acted_as_executed m who t (Traps cause value) e))
+          (settled_parts (by_step who m) (death who.pid (turned_to who m)) (died m h who (by_step who m).call m.threads (λ id other. refl)));
+    }
 
-    go : StepKind m who → KeepsOthers (by_step who m) (step m).machine
+    go : StepKind m who → BeforeTimer m who
     go (Executes t x there e) = executed_keeps t x there e
-    go (ThreadEnds t there ends) =
-        step_others (by_step who m) m who t acts there
-        (subst (λ b. KeepsParts (by_step who m) (then_acted m who [] t b (ends_handler who t.pc) (performed (turned_to who m) who t).executed).machine) (sym ends)
-        (settled_parts (by_step who m) (thread_ended who (reg_at t.regs 10) (turned_to who m)) (ended_keeps m h who (by_step who m).call (reg_at t.regs 10))))
-    go (HandlerEnds t there goes ends) =
-        step_others (by_step who m) m who t acts there
-        (subst (λ a. KeepsParts (by_step who m) (then_acted m who [] t a (ends_handler who t.pc) (performed (turned_to who m) who t).executed).machine) (sym goes)
-        (subst (λ b. KeepsParts (by_step who m) (then_acted m who [] t false b (performed (turned_to who m) who t).executed).machine) (sym ends)
-        (left_parts (by_step who m) (settled (handler_ended who.pid (turned_to who m))).machine (handled_leaves m h who (by_step who m).call))))
+    go (ThreadEnds t there ends) = record {
+      thread = t;
+      there = there;
+      keeps =
+          subst (λ b. KeepsParts (by_step who m) (then_acted m who [] t b (ends_handler who t.pc) (performed (turned_to who m) who t).executed).machine) (sym ends)
+          (settled_parts (by_step who m) (thread_ended who (reg_at t.regs 10) (turned_to who m)) (ended_keeps m h who (by_step who m).call (reg_at t.regs 10)));
+    }
+    go (HandlerEnds t there goes ends) = record {
+      thread = t;
+      there = there;
+      keeps =
+          subst (λ a. KeepsParts (by_step who m) (then_acted m who [] t a (ends_handler who t.pc) (performed (turned_to who m) who t).executed).machine) (sym goes)
+          (subst (λ b. KeepsParts (by_step who m) (then_acted m who [] t false b (performed (turned_to who m) who t).executed).machine) (sym ends)
+          (left_parts (by_step who m) (settled (handler_ended who.pid (turned_to who m))).machine (handled_leaves m h who (by_step who m).call)));
+    }
+
+step_keeps : (m : Machine) (who : ThreadId) → Matched m → actor m ≡ Some who → does_instruction m who ≡ false
+    → KeepsOthers (by_step who m) (step m).machine
+step_keeps m who h acts none =
+    let before : BeforeTimer m who = step_before m who h acts none in
+    step_others (by_step who m) m who before.thread acts before.there before.keeps
 
 -- ---- kills
 
@@ -208,14 +240,13 @@ untimed by after keeps = record {
   orphans = keeps.pages.orphans;
 }
 
-kill_keeps : (pid : Pid) (m : Machine) → Matched m → KeepsOthers (by_kill pid m) (killed pid m).machine
+pub kill_parts : (pid : Pid) (m : Machine) → Matched m → KeepsParts (by_kill pid m) (killed pid m).machine
 unfolding killed
-kill_keeps pid m h = go (m.process pid.0).alive
+kill_parts pid m h = go (m.process pid.0).alive
   where
-    go : (b : Bool) → KeepsOthers (by_kill pid m) (killed_if b pid (unreserved m)).machine
+    go : (b : Bool) → KeepsParts (by_kill pid m) (killed_if b pid (unreserved m)).machine
     go false =
-        untimed (by_kill pid m) (unreserved m)
-        (left_parts (by_kill pid m) (unreserved m)
+        left_parts (by_kill pid m) (unreserved m)
         (record {
           threads = λ id other. refl;
           process = refl;
@@ -223,19 +254,25 @@ kill_keeps pid m h = go (m.process pid.0).alive
           pending = λ k claim there other. refl;
           servers = refl;
           ledger = refl;
-        }))
+        })
     go true =
-        untimed (by_kill pid m) (settled (death pid (unreserved m))).machine
-        (settled_parts (by_kill pid m) (death pid (unreserved m)) (record {
+        settled_parts (by_kill pid m) (death pid (unreserved m)) (record {
           threads = dead_threads m h pid m.cursor None m.threads (λ id other. refl) None;
           process = dead_processes m h pid m.cursor None m.threads (λ id other. refl) None;
           claims = dead_claims m h pid m.cursor None m.threads (λ id other. refl) None;
           pending = dead_pending m h pid m.cursor None m.threads (λ id other. refl) None;
           servers = dead_servers m h pid m.cursor None m.threads (λ id other. refl) None;
           pages = dead_pages m h pid m.cursor None m.threads (λ id other. refl) None;
-        }))
+        })
+
+kill_keeps : (pid : Pid) (m : Machine) → Matched m → KeepsOthers (by_kill pid m) (killed pid m).machine
+kill_keeps pid m h = untimed (by_kill pid m) (killed pid m).machine (kill_parts pid m h)
 
 -- ---- interrupts
+
+not_claimant : (c claim : Claim) → same_thread (thread_id c.pid 1) (thread_id claim.pid 1) ≡ false → c.pid ≢ claim.pid
+not_claimant c claim other same =
+    false≢true (sym other ∙ (ap (λ p. same_thread (thread_id p 1) (thread_id claim.pid 1)) same ∙ same_thread-self (thread_id claim.pid 1)))
 
 irq_leaves : (k : ℕ) (m : Machine) → LeavesAll (is_of_claimant k m) m (raised k m).machine
 unfolding raised
@@ -243,7 +280,14 @@ irq_leaves k m = go (m.claims k) refl
   where
     go : (o : Option Claim) → m.claims k ≡ o
         → LeavesAll (λ id. option_map_or (λ claim. same_thread id (thread_id claim.pid 1)) o false) m (raised_if k o (unreserved m)).machine
-    go None e = record { threads = λ id other. refl; process = refl; claims = refl; servers = refl; ledger = refl }
+    go None e = record {
+      threads = λ id other. refl;
+      process = refl;
+      claims = refl;
+      servers = refl;
+      ledger = refl;
+      pending = λ j c there other. refl;
+    }
     go (Some claim) e =
         let is = pended_raised k claim (unreserved m) in
         record {
@@ -252,14 +296,26 @@ irq_leaves k m = go (m.claims k) refl
           claims = ap (λ (x : Machine). x.claims) is.is;
           servers = ap (λ (x : Machine). x.servers) is.is;
           ledger = ap (λ (x : Machine). x.ledger) is.is;
+          pending = λ j c there other. pended_pending j c (unreserved m) k claim there e (not_claimant c claim other);
         }
 
 -- ---- whatever it is
 
+-- where the cursor alone goes on
+cursor_leaves : (m : Machine) (cursor : ThreadId) → LeavesAll (λ id. false) m (record m { cursor = cursor })
+cursor_leaves m cursor = record {
+  threads = λ id other. refl;
+  process = refl;
+  claims = refl;
+  servers = refl;
+  ledger = refl;
+  pending = λ k claim there other. refl;
+}
+
 pub all_keep : AllKeepOthers
 unfolding picked turn
 all_keep ByStep m h = λ who acts. record { instruction = instruction_leaves m who h acts; other = step_keeps m who h acts }
-all_keep (ByPick who) m h = record { threads = λ id other. refl; process = refl; claims = refl; servers = refl; ledger = refl }
+all_keep (ByPick who) m h = cursor_leaves m (picked who m).machine.cursor
 all_keep (ByIrq k) m h = irq_leaves k m
 all_keep (ByKill pid) m h = kill_keeps pid m h
-all_keep ByTurn m h = record { threads = λ id other. refl; process = refl; claims = refl; servers = refl; ledger = refl }
+all_keep ByTurn m h = cursor_leaves m (turn m).cursor

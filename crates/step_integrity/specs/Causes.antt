@@ -7,7 +7,7 @@ use Rattle.xk_base.specs.declared.ids.ThreadId.{ThreadId}
 use Rattle.xk_base.specs.Tables.Circle.{same_thread}
 use Rattle.machine_model.specs.Runs.Matched.{Matched}
 use Rattle.machine_model.specs.Runs.Moments.{ByIrq, ByKill, ByPick, ByStep, ByTurn, Cause, Moment, caused, state_at}
-use Rattle.machine_model.specs.State.Machine.{Machine}
+use Rattle.machine_model.specs.State.Machine.{Claim, Machine}
 use Rattle.machine_model.specs.State.Order.{actor}
 use Rattle.machine_model.specs.State.Threads.{thread_id}
 use Rattle.machine_model.specs.Stepping.Acts.{call_by, does_instruction}
@@ -44,6 +44,8 @@ pub record LeavesAll (started : ThreadId → Bool) (m after : Machine) : Type 0 
   pub claims : after.claims ≡ m.claims
   pub servers : after.servers ≡ m.servers
   pub ledger : after.ledger ≡ m.ledger
+  -- which numbers are pending, but for those of the process whose interrupt thread passes
+  pub pending : (k : ℕ) (claim : Claim) → m.claims k ≡ Some claim → started (thread_id claim.pid 1) ≡ false → after.pending k ≡ m.pending k
 
 -- ---- whatever it is
 
