@@ -2,3 +2,4 @@ mod HistoryLemmas
 mod InterruptLemmas
 mod OrderLemmas
 mod ReservedLemmas
+mod TimerStepLemmas

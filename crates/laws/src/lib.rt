@@ -34,6 +34,7 @@ ghost use Rattle.machine_history.specs.Reserved.{IsReservedByThread};
 ghost use Rattle.isolation_laws.specs.TwoHistories.{StartSideBySide, TellTheSame};
 ghost use Rattle.laws.specs.Interrupts.{HistoriesAreBalanced, IdleAtTheEnd, IdleSinceBoot, IdleSinceBusy};
 ghost use Rattle.laws.specs.Standing.{EveryReservationHolds, IsReservedBefore};
+ghost use Rattle.laws.specs.TimerSteps.{TimerComesLast};
 
 /// **Every state is matched.** The state in which a machine starts has the invariant, and so has every state of every run and of every
 /// history from a state that has it, the last one too: so of a history that goes on from there, too.
@@ -119,6 +120,12 @@ pub fn timer_raises_at_its_step()
     ensures unarmed { ArmingsAreMoments }
     ensures histories { (events : List Event) (limit : ℕ) (start : Machine) → TimerLaw start (moments_of events limit start) }
     ensures claimed { RaiseFindsClaim }
+{}
+
+/// **The timer comes last.** A step in which the timer is due is its other effects, and then the event of the timer's interrupt. Any other
+/// step is its other effects alone.
+pub fn timer_comes_last()
+    ensures { TimerComesLast }
 {}
 
 /// **Interrupts are delivered once.** No number is delivered more often than it is raised, and what is pending at the end is a raise

@@ -1,6 +1,7 @@
 pub mod AnswerLemmas
 pub mod BroughtLemmas
 pub mod CallLemmas
+pub mod ClaimantLemmas
 pub mod DeathLemmas
 pub mod HistoryLemmas
 pub mod LedgerLemmas
@@ -10,5 +11,6 @@ pub mod PageLemmas
 pub mod PartLemmas
 pub mod PlainPartLemmas
 pub mod ServerLemmas
+pub mod StartedLemmas
 pub mod StepLemmas
 pub mod ThreadLemmas

@@ -1,3 +1,4 @@
 pub mod Causes
+pub mod Claimant
 pub mod Fates
 pub mod KeptOthers

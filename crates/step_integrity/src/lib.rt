@@ -3,6 +3,7 @@
 #![tactic(auto)]
 
 ghost use Rattle.step_integrity.specs.Causes.{AllKeepOthers, HistoriesKeepOthers};
+ghost use Rattle.step_integrity.specs.Claimant.{EffectsKeepThreads, HistoriesKeepThreads, KillsKeepClaimants, StepsKeepPending, StepsKeepThreads, TimerStartsHandlers};
 ghost use Rattle.step_integrity.specs.KeptOthers.{CallKeepsOthers};
 
 /// **A call keeps what is another's.** Another process's thread is unchanged, or is answered with what the call brings or returns, or that
@@ -19,4 +20,16 @@ pub fn call_keeps_others()
 pub fn all_keep_others()
     ensures causes { AllKeepOthers }
     ensures histories { HistoriesKeepOthers }
+{}
+
+/// **The timer's claimant keeps its thread.** A step of another process does to the interrupt thread of the process that claimed the
+/// timer's interrupt no more than to any other thread, unless the timer is due in the step and the thread is Idle. Then it begins a
+/// handler of its process, as by an event. Its pending numbers stay, unless the timer is due. A kill of another process keeps both.
+pub fn claimant_keeps_its_thread()
+    ensures effects { EffectsKeepThreads }
+    ensures steps { StepsKeepThreads }
+    ensures histories { HistoriesKeepThreads }
+    ensures pending { StepsKeepPending }
+    ensures kills { KillsKeepClaimants }
+    ensures starts { TimerStartsHandlers }
 {}
