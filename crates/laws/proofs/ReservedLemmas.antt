@@ -85,11 +85,11 @@ own who a (Some r) e = go (same_thread r.who who) refl e
     go true q h = λ i. Some (record { who = alike r.who who q i; address = some_same r.address a h i })
 
 -- what leads to a state that has the reservation: it had it before and only that thread did a step, or this is the LR
-record IsKept (r : Reservation) (m : Machine) (cause : Cause) : Type 0 where
-  before : m.reserved ≡ Some r
-  only : IsOnlyBy r.who m cause
+pub record IsKept (r : Reservation) (m : Machine) (cause : Cause) : Type 0 where
+  pub before : m.reserved ≡ Some r
+  pub only : IsOnlyBy r.who m cause
 
-abbrev Leaves : Reservation → Machine → Cause → Type 0
+abbrev pub Leaves : Reservation → Machine → Cause → Type 0
 Leaves r m cause = IsKept r m cause ⊎ IsReserving r m cause
 
 memory_turned : (who : ThreadId) (m : Machine) → memory_of (record m { cursor = who }) who.pid ≡ memory_of m who.pid
@@ -170,7 +170,7 @@ unfolding settled death servers_closed closed senders_queued_gone senders_held_g
 kill_leaves m pid r true h = absurd (let d : None ≡ Some r = h in cc)
 kill_leaves m pid r false h = absurd (let d : None ≡ Some r = h in cc)
 
-leaves : (m : Machine) (cause : Cause) (r : Reservation) → (caused cause m).reserved ≡ Some r → Leaves r m cause
+pub leaves : (m : Machine) (cause : Cause) (r : Reservation) → (caused cause m).reserved ≡ Some r → Leaves r m cause
 unfolding step picked raised killed turn
 leaves m ByStep r h = by_step m r (actor m) refl h
 leaves m (ByPick who) r h = inl (record { before = h; only = tt })
@@ -232,7 +232,7 @@ since r start (first ∷ moments) (suc end) run h = go (since r first.machine mo
     go (inr old) = onward r start first moments end (leaves start first.cause r (ap (λ m. m.reserved) (sym run.0) ∙ old.stood)) old
 
 -- what is reserved by the thread at the address is this reservation
-is_this : (r : Reservation) (o : Option Reservation) → is_reserved (reserved_by r.who o) r.address ≡ true → o ≡ Some r
+pub is_this : (r : Reservation) (o : Option Reservation) → is_reserved (reserved_by r.who o) r.address ≡ true → o ≡ Some r
 is_this r o h = go (reserved_by r.who o) refl h
   where
     go : (p : Option ℕ) → reserved_by r.who o ≡ p → is_reserved p r.address ≡ true → o ≡ Some r

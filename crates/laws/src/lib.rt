@@ -5,7 +5,7 @@
 //! of a state too, so it stands in `xousim` (`resumed_run_goes_on`).
 #![tactic(auto)]
 
-ghost use Rattle.std.specs.Prelude.{◌≡◌, ℕ, ◌+◌, ◌<◌, ◌≤◌, true, false, is_some, List, ◌∷◌, ◌++◌, length, slice_get, Some, None};
+ghost use Rattle.std.specs.Prelude.{◌≡◌, ℕ, ◌+◌, ◌<◌, ◌≤◌, ◌⊎◌, true, false, is_some, List, ◌∷◌, ◌++◌, length, slice_get, Some, None};
 ghost use Rattle.xk_base.specs.declared.events.Event.{Event};
 ghost use Rattle.xk_base.specs.declared.ids.Number.{Number};
 ghost use Rattle.xk_base.specs.declared.ids.ThreadId.{ThreadId};
@@ -33,6 +33,8 @@ ghost use Rattle.machine_history.specs.Interleaving.{AreReadyInTurn, picks_and_t
 ghost use Rattle.machine_history.specs.Reserved.{IsReservedByThread};
 ghost use Rattle.isolation_laws.specs.TwoHistories.{StartSideBySide, TellTheSame};
 ghost use Rattle.laws.specs.Interrupts.{HistoriesAreBalanced, IdleAtTheEnd, IdleSinceBoot, IdleSinceBusy};
+ghost use Rattle.laws.specs.LoadedWord.{EveryScFindsItsWord, HadLoaded, HasLoaded};
+ghost use Rattle.laws.specs.Spinning.{JumpSpins, SomeIsAtRisk};
 ghost use Rattle.laws.specs.Standing.{EveryReservationHolds, IsReservedBefore};
 ghost use Rattle.laws.specs.TimerSteps.{TimerComesLast};
 
@@ -171,4 +173,22 @@ pub fn reservation_is_of_one_thread()
         → IsReservedBefore r start (moments_of events limit start) i }
     ensures last { (events : List Event) (limit : ℕ) (start : Machine) → Matched start → IsReservedByThread start
         → IsReservedByThread (history events limit start).machine }
+{}
+
+/// **SC finds the word that LR loaded.** From the LR to the SC that succeeds on it the reservation stands, and memory changes only by
+/// stores of that thread. So the word is the one that the LR found, if the thread stores nothing in between. A start that has the
+/// reservation counts as the LR.
+pub fn sc_finds_the_loaded_word()
+    ensures runs { EveryScFindsItsWord }
+    ensures histories { (events : List Event) (limit : ℕ) (start : Machine) (i : ℕ) (moment : Moment) (r : Reservation)
+        → slice_get (moments_of events limit start) i ≡ Some moment
+        → IsSucceeding r (state_at start (moments_of events limit start) i) moment.cause
+        → HasLoaded r start (moments_of events limit start) i ⊎ HadLoaded r start (moments_of events limit start) i }
+{}
+
+/// **A jump to itself spins.** A Ready thread whose next instruction is `jal x0, 0` stays as it is by each of its steps, so picks can starve
+/// all others (`picks_can_starve` of `record_laws`). Some machine has such a thread, and another thread that is Ready.
+pub fn a_jump_to_itself_spins()
+    ensures spins { JumpSpins }
+    ensures witness { SomeIsAtRisk }
 {}
