@@ -13,7 +13,7 @@ from xous.runs import events
 from xous.transcripts import history as records
 from xous.transcripts.history import History
 from xous.transcripts.laws import ANSWER, LOST, MESSAGE, ORDER, Broken
-from xous.transcripts.turns import STUCK, TURN, Fairness, Played
+from xous.transcripts.turns import PENDING, STUCK, TURN, Fairness, Played
 
 from .frame import EXAMPLES, Case, need_program
 
@@ -65,6 +65,10 @@ def stored(pattern):
 # Mistakes that are planted by hand: the transcript, the law that must be found broken, and the texts that are exchanged, in
 # short form: words lack leading zeros and zeros at the end.
 
+# what examples/driver does with the interrupt that came while its handler ran
+DELIVERED = """77 2.1 irq 3|85 2.1 call 18 2 4 3|85 2.1 reply 0|87 2.1 end|90 2.2 byte 33|100 2.2 call f 76697264 7265
+100 2.2 reply 9 3 4 3|103 2.2 byte 33|113 2.2 call f 76697264 7265|end 113 done""".replace("\n", "|")
+
 PLANTED = (
     ("a reply to nobody", "lend", ANSWER, "114 3.2 byte 4f", "113 3.2 reply 0|114 3.2 byte 4f"),
     ("a call of a thread that waits", "lend", ANSWER, "106 2.2 call f 6c6c6966", "105 3.2 call 2b|106 2.2 call f 6c6c6966"),
@@ -74,6 +78,7 @@ PLANTED = (
     ("a handler that nothing started", "driver", ANSWER, "end 113 done", "114 2.1 byte 41|end 114 done"),
     ("a handler that is started while it runs", "driver", ANSWER, "54 2.1 end", "53 2.1 irq 3|54 2.1 end"),
     ("an interrupt that nobody has claimed", "driver", ANSWER, "44 2.1 irq 3", "44 2.1 irq 4"),
+    ("an interrupt that is lost as a handler ends", "driver", PENDING, DELIVERED, "80 2.2 byte 33|90 2.2 call f 76697264 7265|end 90 done"),
     ("an answer that the server didn't give", "lend", MESSAGE, "96 3.2 reply 12 0 3", "96 3.2 reply 12 0 4"),
     ("a message with another word", "lend", MESSAGE, "81 2.2 reply 9 1 1 7 40000000 1000", "81 2.2 reply 9 1 1 7 40000000 2000"),
     ("a message with another id", "lend", MESSAGE, "81 2.2 reply 9 1 1 7 40000000 1000", "81 2.2 reply 9 1 1 8 40000000 1000"),

@@ -17,6 +17,7 @@ from .history import History
 
 TURN = "turns are fair"
 STUCK = "no step is done exactly where no thread is Ready"
+PENDING = "no interrupt is lost"
 DEFAULT_LIMIT = 10_000_000
 
 
@@ -167,13 +168,23 @@ class Played(History):
                 return False
         return True
 
+    def waiting(self, pid):
+        """The interrupts that an event has raised, and that the process has claimed and not got, in ascending order."""
+        return sorted(number for number in self.pending.get(pid, ()) if self.claims.get(number) == pid)
+
     def is_interrupted(self, step, pid):
-        """Whether the end of a handler starts it anew: by an interrupt that waits, or by the timer's, which may."""
-        record = self.next_of(step, decode.IRQ)
-        if record is None or record.pid != pid:
-            return False
-        waits = any(self.claims.get(number) == pid for number in self.pending.get(pid, ()))
-        return waits or record.words[0] == TIMER_INTERRUPT and self.is_timer()
+        """Whether the end of a handler starts it anew: by the lowest interrupt that waits, or by the timer's, which may."""
+        record, waiting = self.next_of(step, decode.IRQ), self.waiting(pid)
+        number = record.words[0] if record and record.pid == pid else None
+        is_timer = number == TIMER_INTERRUPT and (self.is_timer() if not waiting else number < waiting[0])
+        if waiting and number != waiting[0] and not is_timer:
+            raise Broken(PENDING, self.peek(), f"interrupt {waiting[0]} waits, and its handler doesn't start before it")
+        return bool(waiting) or is_timer
+
+    def take_step(self):
+        record = super().take_step()
+        self.pending = {pid: set(self.waiting(pid)) for pid in self.pending}  # a claim that has ended gives its interrupt up
+        return record
 
     def take_interrupt(self):
         record = super().take_interrupt()
