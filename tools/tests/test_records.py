@@ -106,6 +106,7 @@ OF_MESSAGES = (
     ("a wait beside a queued message", LOST, "7 2.2 call 1c 1 2 3 4|7 2.2 reply 9 2 4 2 6", "7 2.2 call f 1 2 3 4"),
     ("a message that isn't delivered to who waits", LOST, "|10 2.2 reply 9 3 5 3 7", ""),
     ("a message for another than the least tid", LOST, "10 2.2 reply 9 3 5 3 7", "10 2.3 reply 9 3 5 3 7"),
+    ("a message for another process", LOST, "10 2.2 reply 9 3 5 3 7", "10 4.2 reply 9 3 5 3 7"),
     ("a message that is returned twice", MESSAGE, "12 2.2 reply 1 19", "12 2.2 reply 0"),
     ("a sender that isn't answered when its server ends", MESSAGE, "|16 3.2 reply 1 9", ""),
     ("a call that is put off though its server is there", ANSWER, "13 4.2 call 11 5 6 7 8", "13 4.2 call 11 1 2 3 4"),

@@ -1,3 +1,4 @@
 pub mod Differences
+pub mod EmptyPlaces
 pub mod TwoHistories
 pub mod TwoRuns

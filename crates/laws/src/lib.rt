@@ -20,6 +20,7 @@ ghost use Rattle.machine_model.specs.State.Order.{actor, next_ready, ready_at};
 ghost use Rattle.machine_model.specs.State.Start.{IsStart};
 ghost use Rattle.machine_model.specs.Stepping.Events.{picked};
 ghost use Rattle.isolation_laws.specs.Differences.{DifferencesComeFromTheStart, OnlyMovesDifferences};
+ghost use Rattle.isolation_laws.specs.EmptyPlaces.{CallMovesToEmptyPlaces};
 ghost use Rattle.isolation_laws.specs.TwoRuns.{RunsAreSameButBytes, RunsTellTheSame};
 ghost use Rattle.timer_laws.specs.Raising.{RaiseFindsClaim};
 ghost use Rattle.timer_laws.specs.TimerLaw.{ArmingsAreMoments, TimerHolds, TimerLaw};
@@ -93,10 +94,12 @@ pub fn step_is_blind_to_what_it_cannot_load()
     ensures { StepIsIsolated }
 {}
 
-/// **Who changes bytes.** A system call changes no byte of any page: pages are made as zeros where none was, moved with their bytes, or
-/// go, and no two come from one. An instruction changes at most the bytes of one page, at a place where its process may store.
+/// **Who changes bytes.** A system call changes no byte of any page: pages are made as zeros where none was, moved with their bytes to
+/// where none was, or go, and no two come from one. Where a page stood, that page stands afterwards, or none. An instruction changes at
+/// most the bytes of one page, at a place where its process may store.
 pub fn calls_change_no_byte()
     ensures calls { CallChangesNoByte }
+    ensures places { CallMovesToEmptyPlaces }
     ensures instructions { InstructionStoresOnePage }
 {}
 

@@ -1,3 +1,4 @@
+pub mod DeliveryOrderLemmas
 pub mod EndLemmas
 pub mod GivenUpLemmas
 pub mod LandLemmas

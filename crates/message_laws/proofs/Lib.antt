@@ -1,4 +1,5 @@
 pub mod Accepting
 pub mod AtServers
+pub mod Coming
 pub mod Following
 pub mod Serving

@@ -3,5 +3,7 @@ pub mod AtServerLemmas
 pub mod ContentLemmas
 pub mod ForwardRowLemmas
 pub mod OrderLemmas
+pub mod ReceiverLemmas
 pub mod RowLemmas
 pub mod ServedStepLemmas
+pub mod TakenLemmas

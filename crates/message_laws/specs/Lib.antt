@@ -1,6 +1,7 @@
 pub mod Accepting
 pub mod Answered
 pub mod AtServers
+pub mod Coming
 pub mod Contents
 pub mod DeliveredOnce
 pub mod Following

@@ -1,5 +1,5 @@
 -- What a step, an event or the end of a turn does at each server, and which message a reply delivers to whom.
-use Rattle.std.specs.Prelude.{◌≡◌, ◌≢◌, ℕ, ◌⊎◌, ◌==◌, ◌||◌, Bool, true, false, List, [], map, slice_get, slice_index, Some, None}
+use Rattle.std.specs.Prelude.{◌≡◌, ◌≢◌, ℕ, ◌≤◌, ◌⊎◌, ◌==◌, ◌||◌, Bool, true, false, List, [], map, slice_get, slice_index, Some, None}
 use Rattle.std.specs.Bool.{⊤}
 use Rattle.std.specs.List.{All, Contains, list_any}
 use Rattle.xk_base.specs.declared.ids.Number.{Number}
@@ -66,6 +66,12 @@ pub record IsDestroyed (n : ℕ) (server : Server) (cause : Cause) (m : Machine)
   pub destroys : call_number words ≡ destroy_server
   pub names : named_server m (named_sid words) ≡ serial_of n
 
+-- of the threads that wait for a message at server n the thread is the one of the least tid
+abbrev pub IsFirstWaiting : ℕ → ThreadId → Machine → Type 0
+IsFirstWaiting n who m =
+    (receiving_at m (serial_of n) who ≡ true)
+    × ((other : ThreadId) → receiving_at m (serial_of n) other ≡ true → who.tid.0 ≤ other.tid.0)
+
 -- ---- what arrives
 
 -- the message is sent to server n
@@ -109,9 +115,9 @@ pub data Arrives (n : ℕ) (message : Message) (cause : Cause) (m : Machine) : T
 pub data ListStep (n : ℕ) (cause : Cause) (m next : Machine) (Dies : Pid → Type 0) (before after : Server) : Type 0 where
   -- a message is the newest queued
   Queues : (message : Message) → Arrives n message cause m → after ≡ with_queued message before → ListStep n cause m next Dies before after
-  -- none is queued, and a thread of its process that waits receives the message at once
+  -- none is queued, and of the threads of its process that wait the one of the least tid receives the message at once
   Receives : (message : Message) (who : ThreadId) → Arrives n message cause m → before.queued ≡ [] → before.pid ≡ who.pid
-      → receiving_at m (serial_of n) who ≡ true → after ≡ with_received message before → ListStep n cause m next Dies before after
+      → IsFirstWaiting n who m → after ≡ with_received message before → ListStep n cause m next Dies before after
   -- a thread of its process receives the oldest queued message
   Takes : (message : Message) (who : ThreadId) → oldest before.queued ≡ Some message → before.pid ≡ who.pid → IsReceiver n who cause m
       → after ≡ with_received message (without_oldest before) → ListStep n cause m next Dies before after
@@ -139,10 +145,10 @@ pub data ServerStep (n : ℕ) (cause : Cause) (m next : Machine) (Dies : Pid →
 -- ---- deliveries
 
 -- the message gets from server n to the thread: it was the oldest queued there, and the thread receives it; or it arrives where none
--- is queued, and the thread waits for one
+-- is queued, and of the threads that wait for one this is the one of the least tid
 pub data Reaches (n : ℕ) (server : Server) (who : ThreadId) (message : Message) (cause : Cause) (m : Machine) : Type 0 where
   FromQueue : oldest server.queued ≡ Some message → IsReceiver n who cause m → Reaches n server who message cause m
-  AtOnce : server.queued ≡ [] → Arrives n message cause m → receiving_at m (serial_of n) who ≡ true → Reaches n server who message cause m
+  AtOnce : server.queued ≡ [] → Arrives n message cause m → IsFirstWaiting n who m → Reaches n server who message cause m
 
 -- a server of the thread's process delivers it
 pub record IsDelivered (who : ThreadId) (message : Message) (cause : Cause) (m : Machine) : Type 0 where

@@ -9,14 +9,15 @@ ghost use Rattle.machine_model.specs.State.Machine.{Machine};
 ghost use Rattle.message_laws.specs.Answered.{SendersAreAnswered};
 ghost use Rattle.message_laws.specs.AtServers.{HaveOneServer};
 ghost use Rattle.message_laws.specs.Contents.{DeliveredAsSent};
-ghost use Rattle.message_laws.specs.Order.{OrderKept};
+ghost use Rattle.message_laws.specs.Order.{DeliveredInOrder, OrderKept};
 ghost use Rattle.message_laws.specs.Serving.{AllAreServed};
 
 /// **Each server does one thing at a time.** In each step, event and end of a turn from a matched state a server stays as it is, is
 /// founded without a message, ends with its process or by a call of it, or does one of these: a message that is sent to it or forwarded
-/// to it now is its newest queued, or is received at once where none is queued; a thread of its process receives its oldest queued
-/// message; one returns a held message, or forwards it to another server, which has it then; or it loses what a process that dies has
-/// queued. Each reply that has the words of a message is of one that is received so, to the thread that receives it.
+/// to it now is its newest queued, or, where none is queued, is received at once by that one of the threads that wait which has the least
+/// tid; a thread of its process receives its oldest queued message; one returns a held message, or forwards it to another server, which
+/// has it then; or it loses what a process that dies has queued. Each reply that has the words of a message is of one that is received
+/// so, to the thread that receives it.
 pub fn servers_do_one_thing()
     ensures { AllAreServed }
 {}
@@ -47,9 +48,20 @@ pub fn messages_keep_their_order()
         → OrderKept start (moments_of events limit start) }
 {}
 
+/// **Messages are delivered in the order in which they came.** In a run from a matched state a message that comes to a server, sent or
+/// forwarded, joins its queue behind all that wait there. While one waits, none is delivered that didn't wait, too. One that stands
+/// before another is delivered before it, by a record of an earlier moment, or is given up with the process whose thread waits for its
+/// answer. So where none is given up the k-th that comes to a server is the k-th that it delivers.
+pub fn messages_are_delivered_in_order()
+    ensures runs { (start : Machine) (moments : List Moment) → Matched start → IsRun start moments → DeliveredInOrder start moments }
+    ensures histories { (events : List Event) (limit : ℕ) (start : Machine) → Matched start
+        → DeliveredInOrder start (moments_of events limit start) }
+{}
+
 /// **A sender's reply is the return of its message.** Whatever leads from a matched state, a reply to a thread that waits for the answer
 /// to a message has the words of the return of that very message, which the caller of the step makes; or it tells that there is no
-/// server.
+/// server, and the server that has the message ends now: its process dies, or a thread of it destroys the server. So it is also where
+/// sender and server are of one process.
 pub fn senders_get_their_return()
     ensures { SendersAreAnswered }
 {}

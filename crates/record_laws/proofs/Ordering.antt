@@ -1,3 +1,4 @@
 pub mod ChangeLemmas
 pub mod PairLemmas
 pub mod StepLemmas
+pub mod StepNumberLemmas

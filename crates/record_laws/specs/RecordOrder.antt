@@ -1,10 +1,13 @@
--- The order in which the records of one step or event stand. First comes what the thread does: its call, its byte for the console, its
+-- The order in which the records of one step or event stand, and the numbers of steps over a run. First comes what the thread does: its call, its byte for the console, its
 -- fault or its end. Then the retry of its call; then replies, by pid and then by tid; then interrupts, by pid; then the death.
-use Rattle.std.specs.Prelude.{◌≡◌, ℕ, ◌<◌, ◌⊎◌, List}
+use Rattle.std.specs.Prelude.{◌≡◌, ℕ, ◌<◌, ◌≤◌, ◌⊎◌, List}
 use Rattle.std.specs.List.{AllPairs}
 use Rattle.xk_base.specs.declared.records.Rec.{Rec}
 use Rattle.xk_base.specs.declared.records.What.{What}
 use Rattle.xk_base.specs.declared.records.What.TheVariants.{Call, Reply, Retry, Byte, Fault, End, Irq, Gone}
+use Rattle.isolation_laws.specs.TwoRuns.{records_of}
+use Rattle.machine_model.specs.Runs.Moments.{Moment}
+use Rattle.machine_model.specs.State.Machine.{Machine}
 
 -- where a record stands: by its kind first, then by pid, then by tid. The last two count for replies, and the pid for interrupts.
 pub record Rank : Type 0 where
@@ -32,3 +35,7 @@ IsBefore a b =
 -- each record stands before each later one
 abbrev pub StandInOrder : List Rec → Type 0
 StandInOrder records = AllPairs (λ (a b : Rec). IsBefore a.what b.what) records
+
+-- Over a run the numbers of steps never fall: no record has a lesser one than a record before it.
+abbrev pub StepsNeverFall : Machine → List Moment → Type 0
+StepsNeverFall start moments = AllPairs (λ (a b : Rec). a.step ≤ b.step) (records_of start moments)

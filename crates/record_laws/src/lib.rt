@@ -9,7 +9,7 @@ mod stuck;
 mod turns;
 
 pub use answered::{calls_are_answered_once, standings_follow};
-pub use record_order::records_stand_in_order;
+pub use record_order::{records_stand_in_order, steps_never_fall};
 pub use replies::{calls_answer_who_waits, replies_are_due};
 pub use stuck::stuck_is_exactly_that;
 pub use turns::{picks_can_starve, turns_are_fair};

@@ -1,10 +1,9 @@
--- What comes of a call changes no byte: refused and retried it leaves the ledger, and served it does what its plan does.
+-- What comes of a call changes no byte and moves no page onto another: refused and retried it leaves the ledger, and served it does what its plan does.
 use Rattle.std.proofs.Common.{◌≡◌, ℕ, Bool, true, false, List, [], ◌∷◌, None, refl, sym}
 use Rattle.std.specs.Bool.{⊤}
 use Rattle.std.proofs.lemmas.Option.{none-some}
 use Rattle.xk_base.specs.declared.errors.XousError.{XousError}
 use Rattle.ledger_model.specs.Ledger.{Ledger}
-use Rattle.machine_model.specs.Runs.Isolation.{ChangesNoByte}
 use Rattle.machine_model.specs.Runs.Matched.{Matched}
 use Rattle.machine_model.specs.State.Changes.{Call, Outcome, Refused, Retried, Served, call_settled, first_refusal, settled}
 use Rattle.machine_model.specs.State.Machine.{Machine}
@@ -12,6 +11,7 @@ use Rattle.machine_model.specs.State.Order.{turn}
 use Rattle.call_effects.specs.Effects.{run}
 use Rattle.call_effects.specs.Verdicts.{Plan, Row}
 use Rattle.call_effects.proofs.ServedLemmas.{OfPlan}
+use Rattle.isolation_laws.specs.EmptyPlaces.{MovesToEmptyPlaces}
 
 abbrev pub ledger_after : Machine → Outcome → Ledger
 ledger_after m (Refused error) = m.ledger
@@ -19,7 +19,7 @@ ledger_after m Retried = m.ledger
 ledger_after m (Served change) = change.machine.ledger
 
 abbrev pub KeepsBytes : Machine → Outcome → Type 0
-KeepsBytes m outcome = ChangesNoByte m.ledger (ledger_after m outcome)
+KeepsBytes m outcome = MovesToEmptyPlaces m.ledger (ledger_after m outcome)
 
 abbrev pub CallKeepsBytes : Call → Type 0
 CallKeepsBytes served = (m : Machine) (w : List ℕ) → Matched m → KeepsBytes m (served m w)
@@ -32,7 +32,7 @@ settled_ledger m (Served change) = refl
 
 -- what the plan does changes no byte
 abbrev pub PlanKeeps : Machine → Plan → Type 0
-PlanKeeps m plan = ChangesNoByte m.ledger (run plan.effects m).ledger
+PlanKeeps m plan = MovesToEmptyPlaces m.ledger (run plan.effects m).ledger
 
 -- .. where the call of this row is served
 abbrev pub RowKeeps : Row → Type 0

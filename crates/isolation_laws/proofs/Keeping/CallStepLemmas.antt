@@ -1,4 +1,4 @@
--- The step of a call changes no byte.
+-- The step of a call changes no byte, and moves no page onto another.
 use Rattle.std.proofs.lemmas.Option.{none-some}
 use Rattle.machine_model.specs.Stepping.Step.{step}
 use Rattle.machine_model.specs.Stepping.Acts.{call_by, words_if_call, executes}
@@ -8,7 +8,8 @@ use Rattle.machine_model.specs.Runs.Matched.{Matched}
 use Rattle.machine_model.specs.State.Changes.{Outcome, Refused, Retried, Served}
 use Rattle.std.proofs.Common.{◌≡◌, ℕ, List, Option, Some, None, refl, sym, ap, ◌∙◌, subst}
 use Rattle.std.specs.Option.{option_and_then}
-use Rattle.machine_model.specs.Runs.Isolation.{CallChangesNoByte, ChangesNoByte}
+use Rattle.machine_model.specs.Runs.Isolation.{CallChangesNoByte}
+use Rattle.isolation_laws.specs.EmptyPlaces.{CallMovesToEmptyPlaces, MovesToEmptyPlaces}
 use Rattle.machine_model.proofs.Runs.KeptLemmas.{matched_at}
 use Rattle.machine_laws.proofs.Threading.ThreadStepLemmas.{acted_call, step_ledger, turned_to}
 use Rattle.call_effects.specs.Footprints.{LedgerPart, names}
@@ -23,12 +24,12 @@ use Rattle.isolation_laws.proofs.Keeping.StandingPageLemmas.{stays}
 
 -- ---- the calls that can change the ledger
 
-served_keeps : (m : Machine) (w : List ℕ) → Matched m → OfServed (λ change. ChangesNoByte m.ledger change.machine.ledger) (call m w)
+served_keeps : (m : Machine) (w : List ℕ) → Matched m → OfServed (λ change. MovesToEmptyPlaces m.ledger change.machine.ledger) (call m w)
 served_keeps m w h =
-    of_parts (λ parts. names parts LedgerPart) (λ change. ChangesNoByte m.ledger change.machine.ledger) m w each
-    (λ change rest untouched. subst (ChangesNoByte m.ledger) (sym (rest.ledger untouched)) (stays m.ledger))
+    of_parts (λ parts. names parts LedgerPart) (λ change. MovesToEmptyPlaces m.ledger change.machine.ledger) m w each
+    (λ change rest untouched. subst (MovesToEmptyPlaces m.ledger) (sym (rest.ledger untouched)) (stays m.ledger))
   where
-    each : OfChanging (λ parts. names parts LedgerPart) (λ change. ChangesNoByte m.ledger change.machine.ledger) m w
+    each : OfChanging (λ parts. names parts LedgerPart) (λ change. MovesToEmptyPlaces m.ledger change.machine.ledger) m w
     each =
         (λ e. map_keeps m w)
         also (λ e. increase_keeps m w h)
@@ -46,27 +47,30 @@ served_keeps m w h =
 pub call_keeps : CallKeepsBytes call
 call_keeps m w h = go (call m w) (served_keeps m w h)
   where
-    go : (outcome : Outcome) → OfServed (λ change. ChangesNoByte m.ledger change.machine.ledger) outcome → KeepsBytes m outcome
+    go : (outcome : Outcome) → OfServed (λ change. MovesToEmptyPlaces m.ledger change.machine.ledger) outcome → KeepsBytes m outcome
     go (Refused error) of = stays m.ledger
     go Retried of = stays m.ledger
     go (Served change) of = of
 
 -- ---- the step
 
-pub call_step_keeps : CallChangesNoByte
+pub call_step_moves : CallMovesToEmptyPlaces
 unfolding call_by
-call_step_keeps m who words h acts c = go (m.threads who) refl c
+call_step_moves m who words h acts c = go (m.threads who) refl c
   where
     after : Thread → Outcome
     after t = call (turned_to who m) words
 
     go : (o : Option Thread) → m.threads who ≡ o
         → option_and_then (λ t. option_and_then (words_if_call t) (executes m who t)) o ≡ Some words
-        → ChangesNoByte m.ledger (step m).machine.ledger
+        → MovesToEmptyPlaces m.ledger (step m).machine.ledger
     go None q r = absurd (none-some words r)
     go (Some t) q r =
-        subst (ChangesNoByte m.ledger)
+        subst (MovesToEmptyPlaces m.ledger)
         (sym (step_ledger m who t acts q
         ∙ (ap (λ (x : Machine). x.ledger) (acted_call m who words t r)
         ∙ settled_ledger (turned_to who m) (call (turned_to who m) words))))
         (call_keeps (turned_to who m) words (matched_at who m h))
+
+pub call_step_keeps : CallChangesNoByte
+call_step_keeps m who words h acts c = (call_step_moves m who words h acts c).bytes

@@ -3,7 +3,7 @@ use Rattle.xk_base.specs.declared.ids.Pid.{Pid}
 use Rattle.ledger_model.specs.Lawful.{IsLawful}
 use Rattle.machine_model.specs.Ending.Closing.{closed, is_held_from, is_message_at, is_queued_from, senders_held_gone, senders_queued_gone, servers_closed}
 use Rattle.machine_model.specs.Ending.Ends.{death, forgotten}
-use Rattle.machine_model.specs.Runs.Isolation.{ChangesNoByte}
+use Rattle.isolation_laws.specs.EmptyPlaces.{MovesToEmptyPlaces}
 use Rattle.machine_model.specs.State.Machine.{Machine}
 use Rattle.machine_model.specs.State.Servers.{is_server_of}
 use Rattle.isolation_laws.proofs.Keeping.OrphanedPageLemmas.{OnlyOrphans, end_loans_orphans, forget_orphans, orphan_loans_orphans, orphans_keep, orphans_then}
@@ -18,7 +18,7 @@ module _ (pid : Pid) (m : Machine) where
   abbrev senderless : Machine
   senderless = senders_held_gone pid taken_out
 
-  death_orphans : OnlyOrphans m.ledger (death pid m).machine.ledger
+  pub death_orphans : OnlyOrphans m.ledger (death pid m).machine.ledger
   unfolding death servers_closed closed senders_queued_gone senders_held_gone forgotten
   death_orphans =
       orphans_then m.ledger shut.ledger (forgotten pid senderless).ledger
@@ -28,5 +28,5 @@ module _ (pid : Pid) (m : Machine) where
       (orphan_loans_orphans taken_out.processes (is_held_from pid taken_out) taken_out.ledger)
       (forget_orphans pid senderless.ledger)))
 
-  pub death_keeps : IsLawful m.processes m.capacity m.ledger → ChangesNoByte m.ledger (death pid m).machine.ledger
+  pub death_keeps : IsLawful m.processes m.capacity m.ledger → MovesToEmptyPlaces m.ledger (death pid m).machine.ledger
   death_keeps lawful = orphans_keep m.processes m.capacity m.ledger (death pid m).machine.ledger lawful death_orphans

@@ -9,7 +9,8 @@ use Rattle.ledger_model.specs.Places.{in_run, moved}
 use Rattle.ledger_model.specs.Steps.{give}
 use Rattle.ledger_model.proofs.PlaceLemmas.{moved-apart, moved-in_run}
 use Rattle.ledger_model.proofs.Stepping.GivingLemmas.{give_left}
-use Rattle.machine_model.specs.Runs.Isolation.{ChangesNoByte, IsNewPage, IsOldPage}
+use Rattle.machine_model.specs.Runs.Isolation.{IsNewPage, IsOldPage}
+use Rattle.isolation_laws.specs.EmptyPlaces.{MovesToEmptyPlaces}
 use Rattle.isolation_laws.proofs.Keeping.StandingPageLemmas.{homed_once, not_both}
 
 module _ (from : Place) (n : ℕ) (to : Place) (l : Ledger) (free : (p : Place) → in_run to n p ≡ true → l.home p ≡ None) where
@@ -99,11 +100,26 @@ module _ (from : Place) (n : ℕ) (to : Place) (l : Ledger) (free : (p : Place) 
             },
           )
 
-  pub give_keeps : ChangesNoByte l (give from n to l)
+  -- a page that stood stays, or leaves its home: no page comes there
+  stays_or_leaves : (p : Place) (old : Page) → l.home p ≡ Some old
+      → ((give from n to l).home p ≡ None) ⊎ (source (Homed p) ≡ Some (Homed p))
+  stays_or_leaves p old e = go (in_run from n p) refl
+    where
+      apart : in_run to n p ≡ false
+      apart = not_new p old e (in_run to n p) refl
+
+      go : (b : Bool) → in_run from n p ≡ b → ((give from n to l).home p ≡ None) ⊎ (source (Homed p) ≡ Some (Homed p))
+      go true q = inl (give_left from n to l p apart q)
+      go false q = inr (ap (λ a. source_at a (in_run from n p) p) apart ∙ ap (λ b. source_at false b p) q)
+
+  pub give_keeps : MovesToEmptyPlaces l (give from n to l)
   unfolding give
   give_keeps = record {
-    from = source;
-    one_to_one = once;
-    homes = home_kept;
-    orphans = λ q orphan e. inl (refl, e);
+    bytes = record {
+      from = source;
+      one_to_one = once;
+      homes = home_kept;
+      orphans = λ q orphan e. inl (refl, e);
+    };
+    standing = stays_or_leaves;
   }

@@ -8,7 +8,8 @@ use Rattle.xk_base.specs.declared.pages.Right.{Right}
 use Rattle.ledger_model.specs.Ledger.{Ledger, Bytes, Console, Page, PageName, Homed, Orphaned}
 use Rattle.ledger_model.specs.Places.{in_run, same_place}
 use Rattle.ledger_model.specs.Steps.{make, make_console, new_page, zero_page}
-use Rattle.machine_model.specs.Runs.Isolation.{ChangesNoByte, IsNewPage, IsOldPage}
+use Rattle.machine_model.specs.Runs.Isolation.{IsNewPage, IsOldPage}
+use Rattle.isolation_laws.specs.EmptyPlaces.{MovesToEmptyPlaces}
 
 module _ (l : Ledger) (places : Place → Bool) (new : Page) (is_new : IsNewPage new)
     (free : (p : Place) → places p ≡ true → l.home p ≡ None) where
@@ -43,22 +44,30 @@ module _ (l : Ledger) (places : Place → Bool) (new : Page) (is_new : IsNewPage
       go false q r =
           inr (p, ap (λ b. if b then None else Some (Homed p)) q, record { old = page; stood = r; same = refl; moved = inl refl })
 
-  pub made_keeps : ChangesNoByte l made
+  -- where a page stood none is made
+  stays_itself : (p : Place) (old : Page) → l.home p ≡ Some old → (b : Bool) → places p ≡ b → source (Homed p) ≡ Some (Homed p)
+  stays_itself p old e true q = absurd (none-some old (sym (free p q) ∙ e))
+  stays_itself p old e false q = ap (λ b. if b then None else Some (Homed p)) q
+
+  pub made_keeps : MovesToEmptyPlaces l made
   made_keeps = record {
-    from = source;
-    one_to_one = λ a b old e f. source_is a old e ∙ sym (source_is b old f);
-    homes = home_kept;
-    orphans = λ q orphan e. inl (refl, e);
+    bytes = record {
+      from = source;
+      one_to_one = λ a b old e f. source_is a old e ∙ sym (source_is b old f);
+      homes = home_kept;
+      orphans = λ q orphan e. inl (refl, e);
+    };
+    standing = λ p old e. inr (stays_itself p old e (places p) refl);
   }
 
 pub make_keeps : (first : Place) (n : ℕ) (right : Right) (l : Ledger)
     → ((p : Place) → in_run first n p ≡ true → l.home p ≡ None)
-    → ChangesNoByte l (make first n right l)
+    → MovesToEmptyPlaces l (make first n right l)
 unfolding make
 make_keeps first n right l free = made_keeps l (in_run first n) (new_page right (Bytes zero_page)) (inl refl) free
 
 pub make_console_keeps : (place : Place) (w : Bool) (l : Ledger) → l.home place ≡ None
-    → ChangesNoByte l (make_console place w l)
+    → MovesToEmptyPlaces l (make_console place w l)
 unfolding make_console
 make_console_keeps place w l free =
     made_keeps l (λ p. same_place p place) (new_page (record { w = w; x = false }) Console) (inr refl)

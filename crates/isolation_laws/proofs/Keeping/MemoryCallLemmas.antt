@@ -3,7 +3,7 @@ use Rattle.ledger_model.specs.Steps.{remove, reduce}
 use Rattle.xk_base.specs.Calls.Flags.{right_of, has_flag, flag_execute}
 use Rattle.xk_base.specs.Calls.CallWords.{heap_bytes, range_address, map_phys, range_size, map_virt, map_size, range_flags, map_flags}
 use Rattle.machine_model.specs.Runs.Matched.{Matched}
-use Rattle.machine_model.specs.Runs.Isolation.{ChangesNoByte}
+use Rattle.isolation_laws.specs.EmptyPlaces.{MovesToEmptyPlaces}
 use Rattle.machine_model.specs.State.Machine.{Machine}
 use Rattle.ledger_model.specs.Reach.{is_free}
 use Rattle.machine_model.specs.Calling.MemoryCalls.{caller_place, mapped_ledger, map_refusals, heap_start, heap_of, increase_refusals, heap_limit, map_address}
@@ -97,7 +97,7 @@ first_in x first size e =
 
 mapped_keeps : (l : Ledger) (console x : Bool) (first : Place) (size : ℕ) (right : Right)
     → console && (not (size == PAGE_SIZE) || x) ≡ false
-    → HasNoHome l first (size / PAGE_SIZE) → ChangesNoByte l (mapped_ledger console first (size / PAGE_SIZE) right l)
+    → HasNoHome l first (size / PAGE_SIZE) → MovesToEmptyPlaces l (mapped_ledger console first (size / PAGE_SIZE) right l)
 mapped_keeps l false x first size right e free = make_keeps first (size / PAGE_SIZE) right l free
 mapped_keeps l true x first size right e free = make_console_keeps first right.w l (free first (first_in x first size e))
 

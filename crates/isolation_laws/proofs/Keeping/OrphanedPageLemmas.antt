@@ -12,7 +12,8 @@ use Rattle.ledger_model.specs.Reach.{lender_of}
 use Rattle.ledger_model.specs.Steps.{forget, orphan_with}
 use Rattle.ledger_model.proofs.LedgerLemmas.{lender_of-holder, lender_of-loan}
 use Rattle.machine_model.specs.Messaging.LoanSets.{end_loans, freed_but, is_lent_by, loan_but, orphan_loans, orphan_of_page, page_but}
-use Rattle.machine_model.specs.Runs.Isolation.{ChangesNoByte, IsNewPage, IsOldPage, IsOrphaned}
+use Rattle.machine_model.specs.Runs.Isolation.{IsNewPage, IsOldPage, IsOrphaned}
+use Rattle.isolation_laws.specs.EmptyPlaces.{MovesToEmptyPlaces}
 use Rattle.isolation_laws.proofs.Keeping.LedgerStepLemmas.{left_orphan}
 use Rattle.isolation_laws.proofs.Keeping.StandingPageLemmas.{homed_once, not_both}
 
@@ -199,12 +200,20 @@ module _ (procs capacity : ℕ) (before after : Ledger) (lawful : IsLawful procs
         inr (was.0, source_at q orphan e None is.none ∙ ap (option_map (λ h. Homed h)) is.lender, was.1)
   ]
 
-  pub orphans_keep : ChangesNoByte before after
+  -- a page that stood stays, or goes
+  stays_or_goes : (p : Place) (o : Option Page) → after.home p ≡ o → (after.home p ≡ None) ⊎ (source (Homed p) ≡ Some (Homed p))
+  stays_or_goes p None e = inl e
+  stays_or_goes p (Some page) e = inr (ap (λ o. home_source o p) e)
+
+  pub orphans_keep : MovesToEmptyPlaces before after
   orphans_keep = record {
-    from = source;
-    one_to_one = λ a b old e f. once old a b (came old a e) (came old b f);
-    homes = home_kept;
-    orphans = orphan_kept;
+    bytes = record {
+      from = source;
+      one_to_one = λ a b old e f. once old a b (came old a e) (came old b f);
+      homes = home_kept;
+      orphans = orphan_kept;
+    };
+    standing = λ p old e. stays_or_goes p (after.home p) refl;
   }
 
 -- ---- the steps of a death

@@ -7,7 +7,7 @@ use Rattle.machine_model.specs.Messaging.Messages.{carries_pages, new_number}
 use Rattle.ledger_model.specs.Steps.{lend, pass}
 use Rattle.machine_model.specs.Calling.MemoryCalls.{caller_place}
 use Rattle.machine_model.specs.Messaging.ForwardCalls.{passed_number, held_place, next_arrival, passed_place, passable}
-use Rattle.machine_model.specs.Runs.Isolation.{ChangesNoByte}
+use Rattle.isolation_laws.specs.EmptyPlaces.{MovesToEmptyPlaces}
 use Rattle.machine_model.specs.State.Machine.{Machine, Server}
 use Rattle.std.proofs.Common.{◌≡◌, ℕ, Bool, true, false, List, Option, Some, None, refl, sym, ap, ◌∙◌, subst}
 use Rattle.std.specs.Prelude.{◌&&◌, is_none, unwrap_or}
@@ -40,7 +40,7 @@ left_ledger false number m = refl
 -- only a move asks that its new homes are free
 sent_keeps : (kind : MsgKind) (from : Place) (n : ℕ) (to : Place) (number : Number) (l : Ledger)
     → (kind ≡ Move → HasNoHome l to n)
-    → ChangesNoByte l (sent_ledger kind from n to number l)
+    → MovesToEmptyPlaces l (sent_ledger kind from n to number l)
 sent_keeps LendMut from n to number l free =
     goes_keep l (lend from n to Exclusive number l) (lend_only from n to Exclusive number l)
 sent_keeps Lend from n to number l free = goes_keep l (lend from n to Shared number l) (lend_only from n to Shared number l)
@@ -52,7 +52,7 @@ sent_keeps BlockingScalar from n to number l free = stays l
 
 module _ (m : Machine) (w : List ℕ) where
   -- the places of the run that is found are free, and of the server's process
-  run_free : (server : Option Server) → server_at m (send_cid w) ≡ server → (o : Option Vpn)
+  pub run_free : (server : Option Server) → server_at m (send_cid w) ≡ server → (o : Option Vpn)
       → option_and_then (message_run m (sent_pages w)) server ≡ o → is_none o ≡ false
       → HasNoHome m.ledger (sent_place m w (unwrap_or o (record { 0 = 0 }))) (sent_pages w)
   run_free server s None e some = absurd (false≢true (sym some))
@@ -76,7 +76,7 @@ module _ (m : Machine) (w : List ℕ) where
       let kind = unwrap_or (named_kind w) Scalar in
       let from = caller_place m (send_address w) in
       let to = sent_place m w (unwrap_or (arrival m w) (record { 0 = 0 })) in
-      subst (ChangesNoByte m.ledger) (sym (left_ledger (is_answered kind) (new_number m) (with_sent m kind from (sent_pages w) to)))
+      subst (MovesToEmptyPlaces m.ledger) (sym (left_ledger (is_answered kind) (new_number m) (with_sent m kind from (sent_pages w) to)))
       (sent_keeps kind from (sent_pages w) to (new_number m) m.ledger
       (move_free (named_kind w) refl (none_hold (arrival_refusals w (arrival m w)) none).0))
 

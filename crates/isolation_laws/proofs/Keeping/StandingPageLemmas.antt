@@ -4,7 +4,7 @@ use Rattle.std.proofs.lemmas.Bool.{false≢true}
 use Rattle.std.proofs.lemmas.Option.{same_Some}
 use Rattle.xk_base.specs.declared.ids.Place.{Place}
 use Rattle.ledger_model.specs.Ledger.{Ledger, Page, Orphan, PageName, Homed, Orphaned}
-use Rattle.machine_model.specs.Runs.Isolation.{ChangesNoByte}
+use Rattle.isolation_laws.specs.EmptyPlaces.{MovesToEmptyPlaces}
 
 -- ---- names of pages
 
@@ -37,17 +37,20 @@ pub record OnlyGoes (before after : Ledger) : Type 0 where
   pub homes : (p : Place) (page : Page) → after.home p ≡ Some page → StoodAt before p page
   pub orphans : (q : Place) (orphan : Orphan) → after.orphan q ≡ Some orphan → before.orphan q ≡ Some orphan
 
--- .. and then no byte is changed, since each comes from itself
-pub goes_keep : (before after : Ledger) → OnlyGoes before after → ChangesNoByte before after
+-- .. and then no byte is changed and no page moves, since each comes from itself
+pub goes_keep : (before after : Ledger) → OnlyGoes before after → MovesToEmptyPlaces before after
 goes_keep before after only = record {
-  from = λ name. Some name;
-  one_to_one = λ a b old e f. same_Some a old e ∙ sym (same_Some b old f);
-  homes = λ p page e.
-      let was = only.homes p page e in
-      inr (p, refl, record { old = was.old; stood = was.stood; same = was.same; moved = inl refl });
-  orphans = λ q orphan e. inl (refl, only.orphans q orphan e);
+  bytes = record {
+    from = λ name. Some name;
+    one_to_one = λ a b old e f. same_Some a old e ∙ sym (same_Some b old f);
+    homes = λ p page e.
+        let was = only.homes p page e in
+        inr (p, refl, record { old = was.old; stood = was.stood; same = was.same; moved = inl refl });
+    orphans = λ q orphan e. inl (refl, only.orphans q orphan e);
+  };
+  standing = λ p old e. inr refl;
 }
 
-pub stays : (l : Ledger) → ChangesNoByte l l
+pub stays : (l : Ledger) → MovesToEmptyPlaces l l
 stays l =
     goes_keep l l (record { homes = λ p page e. record { old = page; stood = e; same = refl }; orphans = λ q orphan e. e })

@@ -10,7 +10,8 @@ use Rattle.ledger_model.proofs.Pages.BareLemmas.{bare-lawful}
 use Rattle.ledger_model.proofs.Stepping.WritingLemmas.{bare-loans}
 use Rattle.machine_model.specs.Calling.Calls.{call}
 use Rattle.machine_model.specs.Ending.Ends.{death, end_with_last_thread, has_threads, thread_ended}
-use Rattle.machine_model.specs.Runs.Isolation.{ChangesNoByte, without_bytes}
+use Rattle.machine_model.specs.Runs.Isolation.{without_bytes}
+use Rattle.isolation_laws.specs.EmptyPlaces.{MovesToEmptyPlaces}
 use Rattle.machine_model.specs.Runs.Matched.{Matched}
 use Rattle.machine_model.specs.State.Changes.{Change, Outcome, Refused, Retried, Served}
 use Rattle.machine_model.specs.State.Machine.{Machine}
@@ -68,7 +69,7 @@ pub call_moves : (m n : Machine) (w : List ℕ) → Matched m → without_bytes 
     → OnlyMovesDifferences m.ledger n.ledger (ledger_after m (call m w)) (ledger_after n (call n w))
 call_moves m n w h e =
     carried_moves (λ x. ledger_after x (call x w)) (call_ledger_carries w) m n e
-    (call_keeps (both m n e) w (both_matched m n e h))
+    (call_keeps (both m n e) w (both_matched m n e h)).bytes
 
 -- ---- deaths
 
@@ -77,17 +78,17 @@ pub death_moves : (m n : Machine) (pid : Pid) → IsLawful m.processes m.capacit
 death_moves m n pid lawful e =
     carried_moves (λ x. (death pid x).machine.ledger)
     (λ g zeros x. ap (λ (c : Change). c.machine.ledger) (death_through g pid x)) m n e
-    (death_keeps pid (both m n e) (both_lawful m n e lawful))
+    (death_keeps pid (both m n e) (both_lawful m n e lawful)).bytes
 
 -- ---- the end of a thread
 
 last_keeps : (others : Bool) (pid : Pid) (m : Machine) → IsLawful m.processes m.capacity m.ledger
-    → ChangesNoByte m.ledger (end_with_last_thread others pid m).machine.ledger
+    → MovesToEmptyPlaces m.ledger (end_with_last_thread others pid m).machine.ledger
 last_keeps true pid m lawful = stays m.ledger
 last_keeps false pid m lawful = death_keeps pid m lawful
 
 ended_keeps : (who : ThreadId) (a0 : ℕ) (m : Machine) → IsLawful m.processes m.capacity m.ledger
-    → ChangesNoByte m.ledger (thread_ended who a0 m).machine.ledger
+    → MovesToEmptyPlaces m.ledger (thread_ended who a0 m).machine.ledger
 unfolding thread_ended
 ended_keeps who a0 m lawful = last_keeps (has_threads (put_thread who None m) who.pid) who.pid (put_thread who None m) lawful
 
@@ -97,4 +98,4 @@ pub ended_moves : (m n : Machine) (who : ThreadId) (a0 : ℕ) → IsLawful m.pro
 ended_moves m n who a0 lawful e =
     carried_moves (λ x. (thread_ended who a0 x).machine.ledger)
     (λ g zeros x. ap (λ (c : Change). c.machine.ledger) (thread_ended_through g who a0 x)) m n e
-    (ended_keeps who a0 (both m n e) (both_lawful m n e lawful))
+    (ended_keeps who a0 (both m n e) (both_lawful m n e lawful)).bytes

@@ -38,7 +38,7 @@ raised_ledger : (k : ℕ) (o : Option Claim) (m : Machine) → (raised_if k o m)
 raised_ledger k None m = refl
 raised_ledger k (Some claim) m = ap (λ (x : Machine). x.ledger) (pended_raised k claim m).is
 
-irq_ledger : (k : ℕ) (m : Machine) → (raised k m).machine.ledger ≡ m.ledger
+pub irq_ledger : (k : ℕ) (m : Machine) → (raised k m).machine.ledger ≡ m.ledger
 unfolding raised
 irq_ledger k m = raised_ledger k (m.claims k) (unreserved m)
 

@@ -47,7 +47,7 @@ delivered_ledger : (pid : Pid) (m : Machine) → (delivered pid m).machine.ledge
 unfolding delivered
 delivered_ledger pid m = lowest_ledger m pid (if is_free_for_interrupt m pid then lowest_pending m pid else None)
 
-handler_ledger : (pid : Pid) (m : Machine) → (handler_ended pid m).machine.ledger ≡ m.ledger
+pub handler_ledger : (pid : Pid) (m : Machine) → (handler_ended pid m).machine.ledger ≡ m.ledger
 unfolding handler_ended
 handler_ledger pid m = delivered_ledger pid (change_thread (thread_id pid 1) (with_state Idle) m)
 

@@ -34,7 +34,8 @@ use Rattle.message_laws.proofs.AtServers.SinceLemmas.{moment_leads, moment_step,
 use Rattle.message_laws.proofs.Following.KeepLemmas.{queued_this}
 use Rattle.message_laws.proofs.Following.SendLemmas.{arrival_kept}
 use Rattle.message_laws.proofs.Following.StandLemmas.{holds_not_lacks, one_standing, queues_not_lacks, some_standing}
-use Rattle.message_laws.proofs.Serving.ArrivalLemmas.{nothing_queued, receives_there}
+use Rattle.message_laws.proofs.Serving.ArrivalLemmas.{nothing_queued}
+use Rattle.message_laws.proofs.Serving.ReceiverLemmas.{first_waiting}
 
 module _ (number : Number) where
   queued_is_at : (n : ℕ) (m : Machine) → keeping number (m.servers n) ≡ Queues → IsAt number n m
@@ -155,7 +156,7 @@ module _ (number : Number) where
                   server = at.server;
                   there = at.live;
                   own = at.own;
-                  reaches = AtOnce at.empty arrives (receives_there n serial who e);
+                  reaches = AtOnce at.empty arrives (first_waiting n (matched_at a.served.who m h) serial who e);
                 }) refl (number_of number x is) q;
               }
 

@@ -31,7 +31,7 @@ module _ (number : Number) where
   pub number_of : (x : Message) → test x ≡ true → x.number ≡ number
   number_of x e = let same : x.number.0 ≡ number.0 = eqb-true x.number.0 number.0 e in λ i. record { 0 = same i }
 
-  oldest_other : (xs : List Message) (x : Message) → oldest xs ≡ Some x → list_any test xs ≡ false → (test x ≡ false) × (list_any test (drop 1 xs) ≡ false)
+  pub oldest_other : (xs : List Message) (x : Message) → oldest xs ≡ Some x → list_any test xs ≡ false → (test x ≡ false) × (list_any test (drop 1 xs) ≡ false)
   oldest_other [] x first e = absurd (none-some x first)
   oldest_other (y ∷ xs) x first e =
       let parts = or_parts (test y) (list_any test xs) e in
@@ -54,7 +54,7 @@ module _ (number : Number) where
   before_received false xs x e = e
 
   -- what is left out of it is of the process
-  sent_away : (pid : Pid) (xs : List Message) → list_any test xs ≡ true → list_any test (filter (λ x. not (is_sent_from pid x)) xs) ≡ false
+  pub sent_away : (pid : Pid) (xs : List Message) → list_any test xs ≡ true → list_any test (filter (λ x. not (is_sent_from pid x)) xs) ≡ false
       → list_any (λ x. test x && is_sent_from pid x) xs ≡ true
   sent_away pid [] some none = absurd (false≢true some)
   sent_away pid (x ∷ xs) some none = go (λ r s. sent_away pid xs r s) (test x) (is_sent_from pid x) refl refl some none
@@ -72,7 +72,7 @@ module _ (number : Number) where
 
   -- ---- one server
 
-  lacks : (server : Server) → list_any test server.queued ≡ false → list_any test server.held ≡ false → keeping number (Some server) ≡ Lacks
+  pub lacks : (server : Server) → list_any test server.queued ≡ false → list_any test server.held ≡ false → keeping number (Some server) ≡ Lacks
   lacks server p q = (λ i. keeping_by (p i) (q i))
 
   pub lacks_parts : (server : Server) → keeping number (Some server) ≡ Lacks → (list_any test server.queued ≡ false) × (list_any test server.held ≡ false)

@@ -1,8 +1,9 @@
 -- Who waits for an answer, what arrives at a server, and what a death leaves of it.
-use Rattle.std.proofs.Common.{◌≡◌, ℕ, ◌<◌, inl, inr, Bool, true, false, get_or, length, Option, Some, None, refl, sym, ap, ◌∙◌}
-use Rattle.std.specs.Prelude.{if◌then◌else◌}
+use Rattle.std.proofs.Common.{◌≡◌, ◌≢◌, ℕ, ◌<◌, ◌≤◌, inl, inr, Bool, true, false, get_or, length, Option, Some, None, refl, sym, ap, ◌∙◌, subst}
+use Rattle.std.specs.Prelude.{◌&&◌, if◌then◌else◌}
+use Rattle.std.specs.List.{list_any}
 use Rattle.std.specs.Option.{option_map, option_map_or}
-use Rattle.std.proofs.lemmas.Bool.{and_from, eq-eqb, eqb-true, false≢true}
+use Rattle.std.proofs.lemmas.Bool.{and_from, and_parts, eq-eqb, eqb-true, false≢true}
 use Rattle.std.proofs.lemmas.Option.{same_Some}
 use Rattle.xk_base.specs.declared.ids.Number.{Number}
 use Rattle.xk_base.specs.declared.ids.Pid.{Pid}
@@ -14,21 +15,26 @@ use Rattle.xk_base.specs.Tables.Circle.{same_thread}
 use Rattle.machine_model.specs.Ending.Closing.{closed, is_sender_at, senders_held_gone, senders_queued_gone, servers_closed, with_senderless_from, without_queued_from}
 use Rattle.machine_model.specs.Ending.Ends.{death, forgotten}
 use Rattle.machine_model.specs.Messaging.Messages.{is_of_number, is_sent_by}
-use Rattle.machine_model.specs.Messaging.Receivers.{is_receiving, receiver, receiving_at}
+use Rattle.machine_model.specs.Messaging.Receivers.{receiver}
 use Rattle.machine_model.specs.Runs.Matched.{IsServerAwaited, Matched, is_sent_as, is_waiting_for, waits_for}
 use Rattle.machine_model.specs.Runs.Moments.{Cause}
 use Rattle.machine_model.specs.State.Machine.{Idle, Joining, Machine, Ready, Receiving, Server, Thread, ThreadState, Waiting}
 use Rattle.machine_model.specs.State.Servers.{is_server_of, messages_of}
-use Rattle.machine_model.specs.Messaging.MessageCounts.{HasIf, count_at}
+use Rattle.machine_model.specs.Messaging.MessageCounts.{HasIf, count_at, count_in}
 use Rattle.machine_model.proofs.Matching.CountLemmas.{all_right, none_pass}
+use Rattle.machine_laws.proofs.Messaging.AnyServerLemmas.{number_counted}
+use Rattle.machine_laws.proofs.Messaging.ListedLemmas.{PassingServer, listed_at, passing_server}
 use Rattle.machine_laws.proofs.Threading.ThreadAnswerLemmas.{same_thread-self}
 use Rattle.machine_laws.proofs.Returning.GivenBackLemmas.{found_at}
 use Rattle.machine_laws.proofs.Sending.SentReceiverLemmas.{receiver_receives}
 use Rattle.call_effects.specs.Effects.{arriving, at_server}
 use Rattle.call_effects.specs.Rows.MessageRows.{arrival_answers}
-use Rattle.message_laws.specs.Serving.{Arrives, AtOnce, Ends, ListStep, Lists, LosesSender, Queues, Receives, ServerStep, Stays}
+use Rattle.message_laws.specs.Following.{Lacks, keeping}
+use Rattle.message_laws.specs.Serving.{Arrives, AtOnce, Ends, IsFirstWaiting, ListStep, Lists, LosesSender, Queues, Receives, ServerStep, Stays}
 use Rattle.message_laws.proofs.Following.ReturnLemmas.{IsHolder}
-use Rattle.message_laws.proofs.Serving.AtServerLemmas.{AreMeant, none_meant, one_meant, refused_meant}
+use Rattle.message_laws.proofs.Following.StandLemmas.{some_not_lacks}
+use Rattle.message_laws.proofs.Serving.AtServerLemmas.{AreMeant, LoseTheirServer, none_meant, one_meant, refused_meant}
+use Rattle.message_laws.proofs.Serving.ReceiverLemmas.{first_waiting}
 
 -- ---- whose a server is
 
@@ -93,12 +99,48 @@ nothing_queued m h serial who e =
     let at = receiver_receives m serial who e in
     h.body.receivers who at.0 serial at.1 at.2
 
--- who gets a message at once waits at that server
-pub receives_there : (m : Machine) (serial : Serial) (who : ThreadId) → receiver m serial ≡ Some who → receiving_at m serial who ≡ true
-receives_there m serial who e =
-    let thread = receiver_receives m serial who e in
-    ap (λ o. option_map_or (λ (t : Thread). is_receiving serial t.state) o false) thread.1
-    ∙ (ap (is_receiving serial) thread.2 ∙ eq-eqb serial.0 serial.0 refl)
+-- the thread that waits for the answer to a message whose sender it is waits for that message's number
+pub waits_for_its : (m : Machine) → Matched m → (n : ℕ) (server : Server) → m.servers n ≡ Some server → (who : ThreadId) (number : Number)
+    → waits_for m.threads who number ≡ true → list_any (is_sent_by who) (messages_of server) ≡ true → keeping number (m.servers n) ≢ Lacks
+waits_for_its m h n server there who number waits sent lacks =
+    some_not_lacks number server counted (sym (ap (keeping number) there) ∙ lacks)
+  where
+    place : (j : ℕ) × (d : Message) × (j < length (messages_of server)) × (is_sent_by who (get_or (messages_of server) j d) ≡ true)
+    place = listed_at (is_sent_by who) (messages_of server) sent
+
+    x : Message
+    x = get_or (messages_of server) place.0 place.1
+
+    -- it waits for this message, and for one alone
+    its : (b : Bool) → waits_for m.threads who x.number ≡ b → HasIf b m.servers (is_sent_as who x.number) → b ≡ true
+    its true e has = refl
+    its false e has =
+        absurd (false≢true
+        (sym (none_pass (is_sent_as who x.number) (messages_of server) (sym (ap (count_at (is_sent_as who x.number)) there) ∙ has n) place.0 place.1 place.2)
+        ∙ and_from (is_of_number x.number x) (is_sent_by who x) (eq-eqb x.number.0 x.number.0 refl) place.3))
+
+    same : number.0 ≡ x.number.0
+    same =
+        one_waited (m.threads who) number x.number waits
+        (its (waits_for m.threads who x.number) refl (h.body.senders.senders who x.number))
+
+    counted : 1 ≤ count_in (is_of_number number) (messages_of server)
+    counted =
+        subst (λ k. 1 ≤ count_in (is_of_number k) (messages_of server)) (λ i. record { 0 = sym same i })
+        (number_counted (messages_of server) place.0 place.1 place.2)
+
+-- who waits for the answer to a message at servers of a set loses its server, where they end
+pub senders_lose : (m : Machine) → Matched m → (n : Machine) → n.servers ≡ m.servers → (which : ℕ → Bool) (servers : ℕ → Option Server)
+    → ((k : ℕ) → which k ≡ true → servers k ≡ None) → LoseTheirServer m servers (is_sender_at which n)
+senders_lose m h n same which servers ends id e number waits =
+    let at : PassingServer n (λ k server. which k && list_any (is_sent_by id) (messages_of server)) =
+    passing_server n (λ k server. which k && list_any (is_sent_by id) (messages_of server)) e in
+    let parts = and_parts (which at.serial) (list_any (is_sent_by id) (messages_of at.server)) at.passes in
+    record {
+      n = at.serial;
+      had = waits_for_its m h at.serial at.server (ap (λ (s : ℕ → Option Server). s at.serial) (sym same) ∙ at.live) id number waits parts.1;
+      gone = ends at.serial parts.0;
+    }
 
 module _ (cause : Cause) (m : Machine) (h : Matched m) (serial : Serial) (x : Message) (arrives : Arrives serial.0 x cause m) where
   pub arrival_step : (next : Machine) (Dies : Pid → Type 0) (server : Server) → m.servers serial.0 ≡ Some server
@@ -110,18 +152,18 @@ module _ (cause : Cause) (m : Machine) (h : Matched m) (serial : Serial) (x : Me
       go (Some who) e =
           let at = nothing_queued m h serial who e in
           let same = same_Some server at.server (sym there ∙ at.live) in
-          Receives x who arrives (ap (λ (s : Server). s.queued) same ∙ at.empty) (ap (λ (s : Server). s.pid) same ∙ at.own) (receives_there m serial who e) refl
+          Receives x who arrives (ap (λ (s : Server). s.queued) same ∙ at.empty) (ap (λ (s : Server). s.pid) same ∙ at.own) (first_waiting m h serial who e) refl
 
-  pub arrival_meant : AreMeant cause m (arrival_answers (receiver m serial) x)
-  arrival_meant = go (receiver m serial) refl
+  pub arrival_meant : (servers : ℕ → Option Server) → AreMeant cause m servers (arrival_answers (receiver m serial) x)
+  arrival_meant servers = go (receiver m serial) refl
     where
-      go : (o : Option ThreadId) → receiver m serial ≡ o → AreMeant cause m (arrival_answers o x)
-      go None e = none_meant cause m
+      go : (o : Option ThreadId) → receiver m serial ≡ o → AreMeant cause m servers (arrival_answers o x)
+      go None e = none_meant cause m servers
       go (Some who) e =
           let at = nothing_queued m h serial who e in
           let thread = receiver_receives m serial who e in
-          let waits : receiving_at m serial who ≡ true = receives_there m serial who e in
-          one_meant cause m who (message_words x) (
+          let waits : IsFirstWaiting serial.0 who m = first_waiting m h serial who e in
+          one_meant cause m servers who (message_words x) (
             inr (x, record { n = serial.0; server = at.server; there = at.live; own = at.own; reaches = AtOnce at.empty arrives waits }, refl),
             λ number waits. absurd (not_waiting m who thread.0 thread.1 (receiving_waits_not serial thread.0.state thread.2) number waits),
           )
@@ -157,6 +199,13 @@ module _ (cause : Cause) (m : Machine) (pid : Pid) where
       go true e = ended (m.servers n) refl e (now true e)
       go false e = alive (m.servers n) refl e
 
-  pub death_meant : AreMeant cause m (death pid m).answers
+  -- its servers are gone then
+  pub death_ends : (n : ℕ) → is_server_of pid (m.servers n) ≡ true → (death pid m).machine.servers n ≡ None
+  unfolding death servers_closed closed senders_queued_gone senders_held_gone forgotten
+  death_ends n e = ap (λ c. option_map (with_senderless_from pid) (option_map (without_queued_from pid) (if c then None else m.servers n))) e
+
+  pub death_meant : Matched m → AreMeant cause m (death pid m).machine.servers (death pid m).answers
   unfolding death servers_closed closed
-  death_meant = refused_meant cause m (is_sender_at (λ n. is_server_of pid (m.servers n)) m)
+  death_meant h =
+      refused_meant cause m (death pid m).machine.servers (is_sender_at (λ n. is_server_of pid (m.servers n)) m)
+      (senders_lose m h m refl (λ n. is_server_of pid (m.servers n)) (death pid m).machine.servers death_ends)

@@ -27,7 +27,7 @@ use Rattle.machine_model.specs.Stepping.Acts.{call_by, is_call_served}
 use Rattle.machine_model.specs.State.Threads.{Answers, answer_to, both_answers, no_answers}
 use Rattle.machine_laws.proofs.Threading.ThreadPutLemmas.{alike}
 use Rattle.machine_laws.proofs.Threading.ThreadStepLemmas.{turned_to}
-use Rattle.message_laws.specs.Answered.{IsAnswerTo}
+use Rattle.message_laws.specs.Answered.{IsReturnedWith}
 use Rattle.message_laws.specs.Following.{Lacks, keeping}
 use Rattle.message_laws.specs.Serving.{Arrives, AtOnce, Ends, Forwards, Founded, FromQueue, IsDestroyed, IsForwarded, IsForwardedTo, IsMeant, IsReceiver, IsReturned, IsSent, IsServedBy, ListStep, Lists, LosesSender, Queues, Reaches, Receives, Returns, ServerStep, Stays, Takes}
 
@@ -59,12 +59,24 @@ pub call_turned : (m : Machine) (who : ThreadId) → call_by (turned_to who m) w
 unfolding call_by memory_of
 call_turned m who = refl
 
+-- ---- answers
+
+-- the server that has the message is gone afterwards; `servers` are those then
+pub record LosesServer (number : Number) (m : Machine) (servers : ℕ → Option Server) : Type 0 where
+  pub n : ℕ
+  pub had : keeping number (m.servers n) ≢ Lacks
+  pub gone : servers n ≡ None
+
+-- the words are those of its return, or say that there is no server, which is gone then
+abbrev pub IsAnswerBy : Number → List ℕ → Machine → (ℕ → Option Server) → Type 0
+IsAnswerBy number words m servers = IsReturnedWith number words m ⊎ ((words ≡ refused_words ServerNotFound) × LosesServer number m servers)
+
 -- from the state that is turned to the thread whose step it is to the one before
 module _ (cause : Cause) (m : Machine) (cursor : ThreadId) (acts : actor m ≡ Some cursor) (turned : actor (turned_to cursor m) ≡ Some cursor) where
   abbrev like : Machine
   like = turned_to cursor m
 
-  went_like : (who : ThreadId) (words : List ℕ) → is_call_served like who words ≡ true → is_call_served m who words ≡ true
+  pub went_like : (who : ThreadId) (words : List ℕ) → is_call_served like who words ≡ true → is_call_served m who words ≡ true
   unfolding is_call_served
   went_like who words e = e
 
@@ -72,7 +84,7 @@ module _ (cause : Cause) (m : Machine) (cursor : ThreadId) (acts : actor m ≡ S
   unfolding with_sid
   named_like sid serial e = e
 
-  abbrev served_like : (pid : Pid) (words : List ℕ) → IsServedBy pid words cause like → IsServedBy pid words cause m
+  abbrev pub served_like : (pid : Pid) (words : List ℕ) → IsServedBy pid words cause like → IsServedBy pid words cause m
   served_like pid words s =
       let same : cursor ≡ s.who = same_Some cursor s.who (sym turned ∙ s.by_who) in
       record {
@@ -129,7 +141,7 @@ module _ (cause : Cause) (m : Machine) (cursor : ThreadId) (acts : actor m ≡ S
     is = r.is;
   }
 
-  arrives_like : (n : ℕ) (x : Message) → Arrives n x cause like → Arrives n x cause m
+  pub arrives_like : (n : ℕ) (x : Message) → Arrives n x cause like → Arrives n x cause m
   arrives_like n x (IsSent r) = IsSent (record {
     pid = r.pid;
     words = r.words;
@@ -172,9 +184,9 @@ module _ (cause : Cause) (m : Machine) (cursor : ThreadId) (acts : actor m ≡ S
       let d = e.1 in
       inr (e.0, record { n = d.n; server = d.server; there = d.there; own = d.own; reaches = reaches_like d.n d.server who e.0 d.reaches }, e.2)
 
-  pub answer_like : (number : Number) (words : List ℕ) → IsAnswerTo number words like → IsAnswerTo number words m
-  answer_like number words (inr e) = inr e
-  answer_like number words (inl r) =
+  pub answer_like : (servers : ℕ → Option Server) (number : Number) (words : List ℕ) → IsAnswerBy number words like servers → IsAnswerBy number words m servers
+  answer_like servers number words (inr (e, left)) = inr (e, record { n = left.n; had = left.had; gone = left.gone })
+  answer_like servers number words (inl r) =
       let same : cursor ≡ r.who = same_Some cursor r.who (sym turned ∙ r.acts) in
       inl (record {
         who = r.who;
@@ -209,47 +221,54 @@ module _ (cause : Cause) (m next other : Machine) (servers : other.servers ≡ n
   step_to n (Lists before after was now step) =
       Lists before after was (ap (λ (s : ℕ → Option Server). s n) servers ∙ now) (list_to n before after step)
 
--- ---- answers
+-- ---- who is answered, and what
 
 -- a thread that waits for the answer to a message gets that answer
-abbrev pub IsSendersAnswer : Machine → ThreadId → List ℕ → Type 0
-IsSendersAnswer m id words = (number : Number) → waits_for m.threads id number ≡ true → IsAnswerTo number words m
+abbrev pub IsSendersAnswer : Machine → (ℕ → Option Server) → ThreadId → List ℕ → Type 0
+IsSendersAnswer m servers id words = (number : Number) → waits_for m.threads id number ≡ true → IsAnswerBy number words m servers
 
 -- these words for the thread are meant, as a message's and as an answer
-abbrev pub IsTold : Cause → Machine → ThreadId → List ℕ → Type 0
-IsTold cause m id words = IsMeant id words cause m × IsSendersAnswer m id words
+abbrev pub IsTold : Cause → Machine → (ℕ → Option Server) → ThreadId → List ℕ → Type 0
+IsTold cause m servers id words = IsMeant id words cause m × IsSendersAnswer m servers id words
 
-abbrev pub AreMeant : Cause → Machine → Answers → Type 0
-AreMeant cause m answers = (id : ThreadId) (words : List ℕ) → answers id ≡ Some words → IsTold cause m id words
+abbrev pub AreMeant : Cause → Machine → (ℕ → Option Server) → Answers → Type 0
+AreMeant cause m servers answers = (id : ThreadId) (words : List ℕ) → answers id ≡ Some words → IsTold cause m servers id words
 
-module _ (cause : Cause) (m : Machine) where
-  pub none_meant : AreMeant cause m no_answers
+-- whoever of these waits for an answer loses the server that has the message
+abbrev pub LoseTheirServer : Machine → (ℕ → Option Server) → (ThreadId → Bool) → Type 0
+LoseTheirServer m servers test =
+    (id : ThreadId) → test id ≡ true → (number : Number) → waits_for m.threads id number ≡ true → LosesServer number m servers
+
+module _ (cause : Cause) (m : Machine) (servers : ℕ → Option Server) where
+  pub none_meant : AreMeant cause m servers no_answers
   none_meant id words e = absurd (none-some words e)
 
-  pub one_meant : (who : ThreadId) (words : List ℕ) → IsTold cause m who words → AreMeant cause m (answer_to who words)
+  pub one_meant : (who : ThreadId) (words : List ℕ) → IsTold cause m servers who words → AreMeant cause m servers (answer_to who words)
   one_meant who words is id others e = go (same_thread id who) refl e
     where
-      go : (b : Bool) → same_thread id who ≡ b → (if b then Some words else None) ≡ Some others → IsTold cause m id others
-      go true p q = subst (λ v. IsTold cause m v others) (sym (alike id who p)) (subst (IsTold cause m who) (same_Some words others q) is)
+      go : (b : Bool) → same_thread id who ≡ b → (if b then Some words else None) ≡ Some others → IsTold cause m servers id others
+      go true p q =
+          subst (λ v. IsTold cause m servers v others) (sym (alike id who p)) (subst (IsTold cause m servers who) (same_Some words others q) is)
       go false p q = absurd (none-some others q)
 
-  pub both_meant : (f g : Answers) → AreMeant cause m f → AreMeant cause m g → AreMeant cause m (both_answers f g)
+  pub both_meant : (f g : Answers) → AreMeant cause m servers f → AreMeant cause m servers g → AreMeant cause m servers (both_answers f g)
   both_meant f g p q id words e = go (f id) refl e
     where
-      go : (o : Option (List ℕ)) → f id ≡ o → option_or o (g id) ≡ Some words → IsTold cause m id words
+      go : (o : Option (List ℕ)) → f id ≡ o → option_or o (g id) ≡ Some words → IsTold cause m servers id words
       go None r s = q id words s
       go (Some some) r s = p id words (r ∙ s)
 
-  pub refused_meant : (test : ThreadId → Bool) → AreMeant cause m (refused_server test)
-  refused_meant test id words e = go (test id) e
+  pub refused_meant : (test : ThreadId → Bool) → LoseTheirServer m servers test → AreMeant cause m servers (refused_server test)
+  refused_meant test lose id words e = go (test id) refl e
     where
-      go : (b : Bool) → (if b then refused_server (λ x. true) id else None) ≡ Some words → IsTold cause m id words
-      go true q = subst (IsTold cause m id) (same_Some (refused_words ServerNotFound) words q) (inl refl, λ number waits. inr refl)
-      go false q = absurd (none-some words q)
+      go : (b : Bool) → test id ≡ b → (if b then refused_server (λ x. true) id else None) ≡ Some words → IsTold cause m servers id words
+      go true p q =
+          subst (IsTold cause m servers id) (same_Some (refused_words ServerNotFound) words q) (inl refl, λ number waits. inr (refl, lose id p number waits))
+      go false p q = absurd (none-some words q)
 
 -- ---- a served call
 
 pub record Serves (cause : Cause) (m : Machine) (change : Change) : Type 0 where
   pub servers : (n : ℕ) → ServerStep n cause m change.machine (λ pid. change.gone ≡ Some pid)
-  pub answers : AreMeant cause m change.answers
+  pub answers : AreMeant cause m change.machine.servers change.answers
   pub delivery : change.delivery ≡ None

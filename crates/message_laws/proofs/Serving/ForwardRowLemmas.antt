@@ -35,18 +35,18 @@ use Rattle.message_laws.proofs.Serving.AtServerLemmas.{AreMeant, Serves, both_me
 use Rattle.message_laws.proofs.Serving.ArrivalLemmas.{arrival_meant, arrival_step}
 
 module _ (cause : Cause) (m : Machine) (h : Matched m) (w : List ℕ) (served_by : (pid : Pid) → m.cursor.pid ≡ pid → IsServedBy pid w cause m)
-    (plain : AreMeant cause m (answer_to m.cursor plain_words)) where
+    (plain : (servers : ℕ → Option Server) → AreMeant cause m servers (answer_to m.cursor plain_words)) where
   abbrev Goes : Machine → ℕ → Type 0
   Goes next n = ServerStep n cause m next (λ pid. None ≡ Some pid)
 
   -- what is passable is a lend
-  lends_of : (x : Message) → is_passable_of (passed_number w) x ≡ true → is_lend x.kind ≡ true
+  pub lends_of : (x : Message) → is_passable_of (passed_number w) x ≡ true → is_lend x.kind ≡ true
   lends_of x passes =
       (and_parts (is_of_number (passed_number w) x) (is_lend x.kind)
       (and_parts (is_lend_of (passed_number w) x) (is_some x.sender) passes).0).1
 
   -- the message as it arrives at the other server
-  abbrev passed_to_it : call_number w ≡ forward_message → (x : Message) (at : IsHolder m (is_passable_of (passed_number w)) x) (to : Serial) → to.0 ≢ at.serial.0
+  abbrev pub passed_to_it : call_number w ≡ forward_message → (x : Message) (at : IsHolder m (is_passable_of (passed_number w)) x) (to : Serial) → to.0 ≢ at.serial.0
       → passed_to m (forward_cid w) ≡ Some to → (first : Vpn) → IsForwardedTo to.0 (with_first first x) cause m
   passed_to_it e x at to apart leads first =
       let place = found_at (is_passable_of (passed_number w)) at.server.held x at.found in
@@ -139,8 +139,8 @@ module _ (cause : Cause) (m : Machine) (h : Matched m) (w : List ℕ) (served_by
   by_message e None there some live apart first = absurd (false≢true (sym some))
   by_message e (Some x) there some live apart first = record {
     servers = forwarded x at (unwrap_or (passed_to m (forward_cid w)) (serial_of 0)) distinct live_at.server to_there first e leads _ servers;
-    answers = both_meant cause m (arrival_answers (receiver m (unwrap_or (passed_to m (forward_cid w)) (serial_of 0))) (with_first first x)) (answer_to m.cursor plain_words)
-        (arrival_meant cause m h (unwrap_or (passed_to m (forward_cid w)) (serial_of 0)) (with_first first x) (IsForwarded passes)) plain;
+    answers = both_meant cause m _ (arrival_answers (receiver m (unwrap_or (passed_to m (forward_cid w)) (serial_of 0))) (with_first first x)) (answer_to m.cursor plain_words)
+        (arrival_meant cause m h (unwrap_or (passed_to m (forward_cid w)) (serial_of 0)) (with_first first x) (IsForwarded passes) _) (plain _);
     delivery = refl;
   }
     where

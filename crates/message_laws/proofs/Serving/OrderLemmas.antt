@@ -27,7 +27,7 @@ use Rattle.message_laws.specs.Serving.{DiesIn, Ends, Forwards, Founded, ListStep
 use Rattle.message_laws.proofs.Serving.ServedStepLemmas.{all_served}
 
 -- a server that queues the message has it in its queue
-queued_listed : (number : Number) (server : Server) → keeping number (Some server) ≡ Queues → list_any (is_of_number number) server.queued ≡ true
+pub queued_listed : (number : Number) (server : Server) → keeping number (Some server) ≡ Queues → list_any (is_of_number number) server.queued ≡ true
 queued_listed number server e = go (list_any (is_of_number number) server.queued) (list_any (is_of_number number) server.held) refl e
   where
     go : (a b : Bool) → list_any (is_of_number number) server.queued ≡ a → keeping_by a b ≡ Queues → a ≡ true
@@ -40,13 +40,13 @@ module _ (first second : Number) (other : first ≢ second) where
   is_first = is_of_number first
 
   -- the first message stands in the queue, and nothing of the second number before it
-  record IsAhead (queue : List Message) : Type 0 where
-    before : List Message
-    one : Message
-    rest : List Message
-    here : queue ≡ before ++ (one ∷ rest)
-    is : is_of_number first one ≡ true
-    clear : All (λ x. is_of_number second x ≡ false) before
+  pub record IsAhead (queue : List Message) : Type 0 where
+    pub before : List Message
+    pub one : Message
+    pub rest : List Message
+    pub here : queue ≡ before ++ (one ∷ rest)
+    pub is : is_of_number first one ≡ true
+    pub clear : All (λ x. is_of_number second x ≡ false) before
 
   -- at most one message has the first number
   abbrev IsAlone : List Message → Type 0
@@ -163,7 +163,7 @@ module _ (first second : Number) (other : first ≢ second) where
 
   -- ---- the next message
 
-  not_next : (queue : List Message) → IsAhead queue → (x : Message) → oldest queue ≡ Some x → x.number ≢ second
+  pub not_next : (queue : List Message) → IsAhead queue → (x : Message) → oldest queue ≡ Some x → x.number ≢ second
   not_next queue a x e same = go a.before a.here a.clear
     where
       go : (before : List Message) → queue ≡ before ++ (a.one ∷ a.rest) → All (λ y. is_of_number second y ≡ false) before → ⊥
@@ -178,12 +178,12 @@ module _ (first second : Number) (other : first ≢ second) where
 
   -- ---- at a server
 
-  record IsAheadAt (n : ℕ) (m : Machine) : Type 0 where
-    server : Server
-    there : m.servers n ≡ Some server
-    ahead : IsAhead server.queued
+  pub record IsAheadAt (n : ℕ) (m : Machine) : Type 0 where
+    pub server : Server
+    pub there : m.servers n ≡ Some server
+    pub ahead : IsAhead server.queued
 
-  step_ahead : (cause : Cause) (m next : Machine) (Dies : Pid → Type 0) (n : ℕ) → Matched m → ServerStep n cause m next Dies → IsAheadAt n m → keeping first (next.servers n) ≡ Queues → IsAheadAt n next
+  pub step_ahead : (cause : Cause) (m next : Machine) (Dies : Pid → Type 0) (n : ℕ) → Matched m → ServerStep n cause m next Dies → IsAheadAt n m → keeping first (next.servers n) ≡ Queues → IsAheadAt n next
   step_ahead cause m next Dies n h (Stays e) a queued = record { server = a.server; there = e ∙ a.there; ahead = a.ahead }
   step_ahead cause m next Dies n h (Founded server none now empty held) a queued = absurd (none-some a.server (sym none ∙ a.there))
   step_ahead cause m next Dies n h (Ends server there e why) a queued = absurd (let q : Lacks ≡ Queues = sym (ap (keeping first) e) ∙ queued in cc)
@@ -213,7 +213,7 @@ module _ (first second : Number) (other : first ≢ second) where
       j (λ k le. queued (suc k) (omega arith))
 
 -- of a message that stands before another
-ahead_of : (n : ℕ) (first second : Number) (m : Machine) → Matched m → StandsBeforeAt n first second m → (first ≢ second) × ((other : first ≢ second) → IsAheadAt first second other n m)
+pub ahead_of : (n : ℕ) (first second : Number) (m : Machine) → Matched m → StandsBeforeAt n first second m → (first ≢ second) × ((other : first ≢ second) → IsAheadAt first second other n m)
 unfolding count_in
 ahead_of n first second m h at = (
   other,

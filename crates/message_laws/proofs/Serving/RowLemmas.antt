@@ -28,15 +28,15 @@ use Rattle.machine_model.specs.Ending.Closing.{closed, is_sender_at, refused_ser
 use Rattle.machine_model.specs.Ending.Ends.{death}
 use Rattle.machine_model.specs.Messaging.Messages.{is_blocking_of, is_lend_of, is_of_number, new_message, new_number, oldest, without_held}
 use Rattle.machine_model.specs.Messaging.ReceiveCalls.{oldest_queued}
-use Rattle.machine_model.specs.Messaging.Receivers.{receiver, receiving_at}
+use Rattle.machine_model.specs.Messaging.Receivers.{is_receiving, receiver, receiving_at}
 use Rattle.machine_model.specs.Messaging.ReturnCalls.{held_by_caller, holder_of, is_its_range, named_number, sender_gets, sender_of_message}
 use Rattle.machine_model.specs.Messaging.SendCalls.{arrival, is_full_for, named_kind, sender_answered, sends_lend_mut, sends_pages, sent_pages, sent_place, sent_serial, with_sent}
 use Rattle.machine_model.specs.Runs.LoanSpan.{is_send}
-use Rattle.machine_model.specs.Runs.Matched.{Matched}
+use Rattle.machine_model.specs.Runs.Matched.{Matched, is_waiting_for}
 use Rattle.machine_model.specs.Runs.Moments.{ByStep, Cause}
 use Rattle.machine_model.specs.State.Changes.{Change, first_refusal}
 use Rattle.machine_model.specs.State.Connections.{own_connections}
-use Rattle.machine_model.specs.State.Machine.{Machine, Server}
+use Rattle.machine_model.specs.State.Machine.{Idle, Joining, Machine, Ready, Receiving, Server, Thread, ThreadState, Waiting}
 use Rattle.machine_model.specs.State.Order.{actor, ready_at, turn}
 use Rattle.machine_model.specs.State.Servers.{change_server, is_own, is_server_of, server_at, with_sid}
 use Rattle.machine_model.specs.Stepping.Acts.{call_by, is_call_served}
@@ -59,15 +59,15 @@ use Rattle.message_laws.specs.Following.{is_return_call}
 use Rattle.message_laws.specs.Serving.{Arrives, Ends, Founded, FromQueue, IsMeant, IsReceiver, IsReturned, IsSent, IsServedBy, Returns, ServerStep, Stays, Takes, is_receive}
 use Rattle.message_laws.proofs.Following.ReturnLemmas.{IsHolder, blocks_number, held_listed, holder, holder_own, lends_number}
 use Rattle.message_laws.proofs.Following.SendLemmas.{HasServerAt, sender_servers, server_there}
-use Rattle.message_laws.proofs.Serving.AtServerLemmas.{AreMeant, IsSendersAnswer, Serves, both_meant, none_meant, one_changes, one_meant, refused_meant}
-use Rattle.message_laws.proofs.Serving.ArrivalLemmas.{arrival_meant, arrival_step, death_meant, death_serves, not_waiting, one_waited, ready_waits_not, sender_waits, server_owner}
+use Rattle.message_laws.proofs.Serving.AtServerLemmas.{AreMeant, IsSendersAnswer, LoseTheirServer, LosesServer, Serves, both_meant, none_meant, one_changes, one_meant, refused_meant}
+use Rattle.message_laws.proofs.Serving.ArrivalLemmas.{arrival_meant, arrival_step, death_meant, death_serves, not_waiting, one_waited, ready_waits_not, sender_waits, senders_lose, server_owner}
 use Rattle.message_laws.proofs.Serving.ForwardRowLemmas.{forward_serves}
 
 -- ---- rows
 
 -- the caller doesn't wait
-pub not_cursor : (m : Machine) → ready_at m m.cursor ≡ true → (words : List ℕ) → IsSendersAnswer m m.cursor words
-not_cursor m ready words number waits =
+pub not_cursor : (m : Machine) → ready_at m m.cursor ≡ true → (servers : ℕ → Option Server) (words : List ℕ) → IsSendersAnswer m servers m.cursor words
+not_cursor m ready servers words number waits =
     let r : IsReadyThread m m.cursor = ready_thread m m.cursor ready in
     absurd (not_waiting m m.cursor r.thread r.there (ready_waits_not r.thread.state r.ready) number waits)
 
@@ -85,11 +85,12 @@ module _ (cause : Cause) (by_step : cause ≡ ByStep) (m : Machine) (h : Matched
   OfCall k row = call_number w ≡ k → OfPlan (λ plan. Serves cause m (done m plan)) (row m w)
 
   -- servers stay, and the caller is answered other words than a message's
-  plain : (words : List ℕ) → ((slice_index words 0 == reply_message) ≡ false) → AreMeant cause m (answer_to m.cursor words)
-  plain words e = one_meant cause m m.cursor words (inl e, not_cursor m ready words)
+  plain : (words : List ℕ) → ((slice_index words 0 == reply_message) ≡ false) → (servers : ℕ → Option Server) → AreMeant cause m servers (answer_to m.cursor words)
+  plain words e servers = one_meant cause m servers m.cursor words (inl e, not_cursor m ready servers words)
 
-  still : (change : Change) → ((n : ℕ) → change.machine.servers n ≡ m.servers n) → AreMeant cause m change.answers → change.delivery ≡ None → Serves cause m change
-  still change same meant none = record { servers = λ n. Stays (same n); answers = meant; delivery = none }
+  still : (change : Change) → ((n : ℕ) → change.machine.servers n ≡ m.servers n) → ((servers : ℕ → Option Server) → AreMeant cause m servers change.answers)
+      → change.delivery ≡ None → Serves cause m change
+  still change same meant none = record { servers = λ n. Stays (same n); answers = meant change.machine.servers; delivery = none }
 
   yield_serves : OfCall yield_turn yield_row
   unfolding turn
@@ -134,21 +135,22 @@ module _ (cause : Cause) (by_step : cause ≡ ByStep) (m : Machine) (h : Matched
       go (Some x) e = record {
         servers = one_changes cause serial (at_server (Taken x)) m _ _ refl
             (λ server there. Takes x m.cursor (first_of x e server there) (own server there) receives refl);
-        answers = one_meant cause m m.cursor (message_words x) (at x e (m.servers serial.0) refl, not_cursor m ready (message_words x));
+        answers = one_meant cause m _ m.cursor (message_words x) (at x e (m.servers serial.0) refl, not_cursor m ready _ (message_words x));
         delivery = refl;
       }
 
   -- ---- returns
 
-  sender_meant : (words : List ℕ) → ((slice_index words 0 == reply_message) ≡ false) → (o : Option ThreadId)
-      → ((who : ThreadId) → o ≡ Some who → IsSendersAnswer m who words) → AreMeant cause m (sender_gets words o)
-  sender_meant words e None given = none_meant cause m
-  sender_meant words e (Some who) given = one_meant cause m who words (inl e, given who refl)
+  sender_meant : (servers : ℕ → Option Server) (words : List ℕ) → ((slice_index words 0 == reply_message) ≡ false) → (o : Option ThreadId)
+      → ((who : ThreadId) → o ≡ Some who → IsSendersAnswer m servers who words) → AreMeant cause m servers (sender_gets words o)
+  sender_meant servers words e None given = none_meant cause m servers
+  sender_meant servers words e (Some who) given = one_meant cause m servers who words (inl e, given who refl)
 
   -- the sender of the message that the call names gets the words of the return
   module _ (test : Message → Bool) (numbered : (x : Message) → test x ≡ true → is_of_number (named_number w) x ≡ true) (words : List ℕ)
-      (e : (slice_index words 0 == reply_message) ≡ false) (returns : is_return_call (call_number w) ≡ true) (given : words ≡ words_of_return w) where
-    sender_given : (o : Option Message) → held_by_caller m test ≡ o → (who : ThreadId) → sender_of_message o ≡ Some who → IsSendersAnswer m who words
+      (e : (slice_index words 0 == reply_message) ≡ false) (returns : is_return_call (call_number w) ≡ true) (given : words ≡ words_of_return w)
+      (servers : ℕ → Option Server) where
+    sender_given : (o : Option Message) → held_by_caller m test ≡ o → (who : ThreadId) → sender_of_message o ≡ Some who → IsSendersAnswer m servers who words
     sender_given None there who sender number waits = absurd (none-some who sender)
     sender_given (Some x) there who sender number waits =
         let at = holder m test x there in
@@ -165,10 +167,10 @@ module _ (cause : Cause) (by_step : cause ≡ ByStep) (m : Machine) (h : Matched
           given = given;
         })
 
-    given_meant : AreMeant cause m (both_answers (answer_to m.cursor plain_words) (sender_gets words (sender_of_message (held_by_caller m test))))
+    given_meant : AreMeant cause m servers (both_answers (answer_to m.cursor plain_words) (sender_gets words (sender_of_message (held_by_caller m test))))
     given_meant =
-        both_meant cause m (answer_to m.cursor plain_words) (sender_gets words (sender_of_message (held_by_caller m test))) (plain plain_words refl)
-        (sender_meant words e (sender_of_message (held_by_caller m test)) (sender_given (held_by_caller m test) refl))
+        both_meant cause m servers (answer_to m.cursor plain_words) (sender_gets words (sender_of_message (held_by_caller m test))) (plain plain_words refl servers)
+        (sender_meant servers words e (sender_of_message (held_by_caller m test)) (sender_given (held_by_caller m test) refl))
 
   -- the message leaves the server that holds it
   let_go : (test : Message → Bool) → ((x : Message) → test x ≡ true → is_of_number (named_number w) x ≡ true) → is_return_call (call_number w) ≡ true
@@ -220,7 +222,7 @@ module _ (cause : Cause) (by_step : cause ≡ ByStep) (m : Machine) (h : Matched
         (none_holds (is_none (held_by_caller m (is_lend_of (named_number w)))) DoubleFree
         ((not (option_map_or (is_its_range (return_address w) (return_size w)) (held_by_caller m (is_lend_of (named_number w))) false), BadAddress) ∷ []) none).0
         _ refl;
-    answers = given_meant (is_lend_of (named_number w)) (lends_number (named_number w)) (returned_words (return_offset w) (return_valid w)) refl (ap is_return_call e) (memory_words e);
+    answers = given_meant (is_lend_of (named_number w)) (lends_number (named_number w)) (returned_words (return_offset w) (return_valid w)) refl (ap is_return_call e) (memory_words e) _;
     delivery = refl;
   }
 
@@ -228,7 +230,7 @@ module _ (cause : Cause) (by_step : cause ≡ ByStep) (m : Machine) (h : Matched
   return_scalar1_serves e none = record {
     servers = let_go (is_blocking_of (named_number w)) (blocks_number (named_number w)) (ap is_return_call e)
         (none_holds (is_none (held_by_caller m (is_blocking_of (named_number w)))) DoubleFree [] none).0 _ refl;
-    answers = given_meant (is_blocking_of (named_number w)) (blocks_number (named_number w)) (scalar1_words (return_value1 w)) refl (ap is_return_call e) (one_word e);
+    answers = given_meant (is_blocking_of (named_number w)) (blocks_number (named_number w)) (scalar1_words (return_value1 w)) refl (ap is_return_call e) (one_word e) _;
     delivery = refl;
   }
 
@@ -236,7 +238,7 @@ module _ (cause : Cause) (by_step : cause ≡ ByStep) (m : Machine) (h : Matched
   return_scalar2_serves e none = record {
     servers = let_go (is_blocking_of (named_number w)) (blocks_number (named_number w)) (ap is_return_call e)
         (none_holds (is_none (held_by_caller m (is_blocking_of (named_number w)))) DoubleFree [] none).0 _ refl;
-    answers = given_meant (is_blocking_of (named_number w)) (blocks_number (named_number w)) (scalar2_words (return_value1 w) (return_value2 w)) refl (ap is_return_call e) (two_words e);
+    answers = given_meant (is_blocking_of (named_number w)) (blocks_number (named_number w)) (scalar2_words (return_value1 w) (return_value2 w)) refl (ap is_return_call e) (two_words e) _;
     delivery = refl;
   }
 
@@ -246,7 +248,7 @@ module _ (cause : Cause) (by_step : cause ≡ ByStep) (m : Machine) (h : Matched
   unfolding death servers_closed closed
   terminate_serves = record {
     servers = death_serves cause m m.cursor.pid;
-    answers = death_meant cause m m.cursor.pid;
+    answers = death_meant cause m m.cursor.pid h;
     delivery = refl;
   }
 
@@ -260,18 +262,38 @@ module _ (cause : Cause) (by_step : cause ≡ ByStep) (m : Machine) (h : Matched
       go None own at = absurd (false≢true own)
       go (Some serial) own at = server_owner m.cursor.pid server (sym (ap (is_server_of m.cursor.pid) at) ∙ own)
 
+  -- a thread that is Receiving waits for no answer
+  receivers_wait_not : (serial : Serial) (servers : ℕ → Option Server) → LoseTheirServer m servers (receiving_at m serial)
+  receivers_wait_not serial servers id receives number waits = go (m.threads id) refl receives
+    where
+      go : (o : Option Thread) → m.threads id ≡ o → option_map_or (λ t. is_receiving serial t.state) o false ≡ true → LosesServer number m servers
+      go None there q = absurd (false≢true q)
+      go (Some t) there q = absurd (by t.state q (sym (ap (λ o. option_map_or (λ (x : Thread). is_waiting_for number x.state) o false) there) ∙ waits))
+        where
+          by : (s : ThreadState) → is_receiving serial s ≡ true → is_waiting_for number s ≡ true → ⊥
+          by Ready p r = false≢true p
+          by (Receiving other) p r = false≢true r
+          by (Waiting other) p r = false≢true p
+          by (Joining tid) p r = false≢true p
+          by Idle p r = false≢true p
+
   destroy_serves : call_number w ≡ destroy_server → OfPlan (λ plan. Serves cause m (done m plan)) (destroy_row m w)
   unfolding closed
   destroy_serves e none = record {
     servers = λ n. go n (n == (named_server m (named_sid w)).0) refl;
-    answers = both_meant cause m (answer_to m.cursor plain_words)
+    answers = both_meant cause m left (answer_to m.cursor plain_words)
         (both_answers (refused_server (is_sender_at (λ n. n == (named_server m (named_sid w)).0) m)) (refused_server (receiving_at m (named_server m (named_sid w)))))
-        (plain plain_words refl)
-        (both_meant cause m (refused_server (is_sender_at (λ n. n == (named_server m (named_sid w)).0) m)) (refused_server (receiving_at m (named_server m (named_sid w))))
-        (refused_meant cause m (is_sender_at (λ n. n == (named_server m (named_sid w)).0) m)) (refused_meant cause m (receiving_at m (named_server m (named_sid w)))));
+        (plain plain_words refl left)
+        (both_meant cause m left (refused_server (is_sender_at (λ n. n == (named_server m (named_sid w)).0) m)) (refused_server (receiving_at m (named_server m (named_sid w))))
+        (refused_meant cause m left (is_sender_at (λ n. n == (named_server m (named_sid w)).0) m)
+        (senders_lose m h m refl (λ n. n == (named_server m (named_sid w)).0) left (λ k q. ap (λ b. if b then None else m.servers k) q)))
+        (refused_meant cause m left (receiving_at m (named_server m (named_sid w))) (receivers_wait_not (named_server m (named_sid w)) left)));
     delivery = refl;
   }
     where
+      left : ℕ → Option Server
+      left n = if n == (named_server m (named_sid w)).0 then None else m.servers n
+
       ended : (n : ℕ) → n ≡ (named_server m (named_sid w)).0 → (o : Option Server) → m.servers n ≡ o
           → (closed (λ n. n == (named_server m (named_sid w)).0) m).machine.servers n ≡ None → Goes (closed (λ n. n == (named_server m (named_sid w)).0) m).machine n
       ended n same None there gone = Stays (gone ∙ sym there)
@@ -299,8 +321,8 @@ module _ (cause : Cause) (by_step : cause ≡ ByStep) (m : Machine) (h : Matched
             (ap (λ (s : ℕ → Option Server). put_at nat_eq s (sent_serial m w).0 (option_map (at_server (arriving (receiver m (sent_serial m w)) x)) (s (sent_serial m w).0)))
             (sender_servers (is_answered (unwrap_or (named_kind w) Scalar)) (new_number m) paged))
             (arrival_step cause m h (sent_serial m w) x (arrives first) _ _);
-        answers = both_meant cause m (arrival_answers (receiver m (sent_serial m w)) x) (sender_answered (is_answered (unwrap_or (named_kind w) Scalar)) m.cursor)
-            (arrival_meant cause m h (sent_serial m w) x (arrives first)) (sender_told (is_answered (unwrap_or (named_kind w) Scalar)));
+        answers = both_meant cause m _ (arrival_answers (receiver m (sent_serial m w)) x) (sender_answered (is_answered (unwrap_or (named_kind w) Scalar)) m.cursor)
+            (arrival_meant cause m h (sent_serial m w) x (arrives first) _) (sender_told (is_answered (unwrap_or (named_kind w) Scalar)) _);
         delivery = refl;
       }
     where
@@ -320,9 +342,9 @@ module _ (cause : Cause) (by_step : cause ≡ ByStep) (m : Machine) (h : Matched
         is = refl;
       })
 
-      sender_told : (b : Bool) → AreMeant cause m (sender_answered b m.cursor)
-      sender_told true = none_meant cause m
-      sender_told false = plain plain_words refl
+      sender_told : (b : Bool) (servers : ℕ → Option Server) → AreMeant cause m servers (sender_answered b m.cursor)
+      sender_told true servers = none_meant cause m servers
+      sender_told false servers = plain plain_words refl servers
 
   abbrev tests : List (Bool × XousError)
   tests =
@@ -361,7 +383,7 @@ module _ (cause : Cause) (by_step : cause ≡ ByStep) (m : Machine) (h : Matched
       also (λ e none. still _ (λ n. refl) (plain plain_words refl) refl)
       also (λ e none. record {
         servers = founded _ refl;
-        answers = plain (new_server_words (named_sid w) (cid_for (new_serial m) (own_connections m))) refl;
+        answers = plain (new_server_words (named_sid w) (cid_for (new_serial m) (own_connections m))) refl _;
         delivery = refl;
       })
       also (λ e none. taken_serves (named_server m (named_sid w)) refl (ap is_receive e) (named_own none) _ (still _ (λ n. refl) (none_meant cause m) refl))

@@ -1,6 +1,7 @@
 -- What each step, event and end of a turn does at each server, and which messages its replies deliver.
 use Rattle.std.proofs.Common.{◌≡◌, ℕ, ◌+◌, ◌<◌, ◌⊎◌, inl, inr, Bool, true, false, List, [], ◌∷◌, ◌++◌, map, Option, Some, None, refl, sym, ap, ◌∙◌, subst, arith}
 use Rattle.std.specs.Prelude.{◌==◌, ◌%◌, if◌then◌else◌, is_some, nat_eq, slice_index_or, unwrap_or}
+use Rattle.std.specs.Bool.{⊤}
 use Rattle.std.specs.List.{All, Contains}
 use Rattle.std.specs.Option.{option_map, option_map_or}
 use Rattle.std.proofs.lemmas.Bool.{and_parts, false≢true}
@@ -43,64 +44,80 @@ use Rattle.machine_laws.proofs.Stepping.StepKindLemmas.{Executes, HandlerEnds, S
 use Rattle.machine_laws.proofs.Threading.ThreadStepLemmas.{actor_ready, then_acted, turned_to}
 use Rattle.call_effects.proofs.ServedLemmas.{OfServed}
 use Rattle.record_laws.proofs.Answering.DueLemmas.{timed_holds}
-use Rattle.message_laws.specs.Answered.{IsSenderAnswered, SendersAreAnswered}
-use Rattle.message_laws.specs.Serving.{AllAreServed, DiesIn, IsDelivery, ServerStep, Stays}
+use Rattle.message_laws.specs.Answered.{IsAnswerTo, IsSenderAnswered, IsUnserved, SendersAreAnswered}
+use Rattle.message_laws.specs.Following.{keeping}
+use Rattle.message_laws.specs.Serving.{AllAreServed, DiesIn, Ends, Founded, IsDelivery, IsDestroyed, Lists, ServerStep, Stays, told_by}
 use Rattle.message_laws.proofs.Following.StepLemmas.{numbered, step_is, stepped}
-use Rattle.message_laws.proofs.Serving.AtServerLemmas.{AreMeant, IsTold, Serves, answer_like, both_meant, call_turned, meant_like, none_meant, refused_meant, step_like, step_to}
-use Rattle.message_laws.proofs.Serving.ArrivalLemmas.{death_serves}
+use Rattle.message_laws.proofs.Serving.AtServerLemmas.{AreMeant, IsAnswerBy, IsSendersAnswer, IsTold, LosesServer, Serves, answer_like, both_meant, call_turned, meant_like, none_meant, refused_meant, step_like, step_to}
+use Rattle.message_laws.proofs.Serving.ArrivalLemmas.{death_ends, death_serves, senders_lose}
 use Rattle.message_laws.proofs.Serving.RowLemmas.{not_cursor, served_serves}
 
 -- ---- what is told
 
+-- a reply to a thread that waits for an answer is that answer; `servers` are those then
+abbrev pub IsReplied : Machine → (ℕ → Option Server) → What → Type 0
+IsReplied m servers (Call who words) = ⊤
+IsReplied m servers (Reply who words) = IsSendersAnswer m servers who words
+IsReplied m servers (Retry who) = ⊤
+IsReplied m servers (Byte who byte) = ⊤
+IsReplied m servers (Fault who code value) = ⊤
+IsReplied m servers (End who) = ⊤
+IsReplied m servers (Irq pid k) = ⊤
+IsReplied m servers (Gone pid) = ⊤
+
 -- what a record says of deliveries and of answers
-abbrev pub IsRecordTold : Cause → Machine → What → Type 0
-IsRecordTold cause m what = IsDelivery cause m what × IsSenderAnswered m what
+abbrev pub IsRecordTold : Cause → Machine → (ℕ → Option Server) → What → Type 0
+IsRecordTold cause m servers what = IsDelivery cause m what × IsReplied m servers what
 
 pub record Does (cause : Cause) (m : Machine) (done : Told) : Type 0 where
   pub servers : (n : ℕ) → ServerStep n cause m done.machine (DiesIn done.told)
-  pub told : All (IsRecordTold cause m) done.told
+  pub told : All (IsRecordTold cause m done.machine.servers) done.told
 
 module _ (cause : Cause) where
   -- a record that is no reply
-  first_does : (m : Machine) (what : What) (done : Told) → IsRecordTold cause m what → Does cause m done → Does cause m (after what done)
+  first_does : (m : Machine) (what : What) (done : Told) → IsRecordTold cause m done.machine.servers what → Does cause m done → Does cause m (after what done)
   first_does m what done is does = record {
     servers = λ n. step_to cause m done.machine done.machine refl (DiesIn done.told) (DiesIn (what ∷ done.told))
         (λ pid dies. Contains-append_right (what ∷ []) done.told (Gone pid) dies) n (does.servers n);
-    told = All-cons (IsRecordTold cause m) what done.told is does.told;
+    told = All-cons (IsRecordTold cause m done.machine.servers) what done.told is does.told;
   }
 
   none_does : (m next : Machine) → next.servers ≡ m.servers → Does cause m (record { machine = next; told = [] })
-  none_does m next same = record { servers = λ n. Stays (ap (λ (s : ℕ → Option Server). s n) same); told = All-nil (IsRecordTold cause m) }
+  none_does m next same = record { servers = λ n. Stays (ap (λ (s : ℕ → Option Server). s n) same); told = All-nil (IsRecordTold cause m next.servers) }
 
   -- ---- a change
 
-  module _ (m : Machine) (change : Change) (servers : (n : ℕ) → ServerStep n cause m change.machine (λ pid. change.gone ≡ Some pid)) (meant : AreMeant cause m change.answers) where
-    each_reply : (id : ThreadId) → is_some (change.answers id) ≡ true → IsTold cause m id (unwrap_or (change.answers id) [])
+  module _ (m : Machine) (change : Change) (servers : (n : ℕ) → ServerStep n cause m change.machine (λ pid. change.gone ≡ Some pid))
+      (meant : AreMeant cause m change.machine.servers change.answers) where
+    abbrev IsOne : What → Type 0
+    IsOne what = IsRecordTold cause m change.machine.servers what
+
+    each_reply : (id : ThreadId) → is_some (change.answers id) ≡ true → IsTold cause m change.machine.servers id (unwrap_or (change.answers id) [])
     each_reply id some = go (change.answers id) refl some
       where
-        go : (o : Option (List ℕ)) → change.answers id ≡ o → is_some o ≡ true → IsTold cause m id (unwrap_or o [])
+        go : (o : Option (List ℕ)) → change.answers id ≡ o → is_some o ≡ true → IsTold cause m change.machine.servers id (unwrap_or o [])
         go None e s = absurd (false≢true s)
         go (Some words) e s = meant id words e
 
-    all_replies : All (IsRecordTold cause m) (replies change.machine.processes change.answers)
+    all_replies : All IsOne (replies change.machine.processes change.answers)
     all_replies =
-        All-map (IsRecordTold cause m) (λ id. Reply id (unwrap_or (change.answers id) [])) (listed_ids change.machine.processes (λ id. is_some (change.answers id)))
+        All-map IsOne (λ id. Reply id (unwrap_or (change.answers id) [])) (listed_ids change.machine.processes (λ id. is_some (change.answers id)))
         (λ k d low. each_reply (slice_index_or (listed_ids change.machine.processes (λ id. is_some (change.answers id))) k d)
         (listed_ids-passes change.machine.processes (λ id. is_some (change.answers id)) k d low).1)
 
-    deliveries : (o : Option Delivery) → All (IsRecordTold cause m) (delivery_told o)
-    deliveries None = All-nil (IsRecordTold cause m)
-    deliveries (Some d) = All-cons (IsRecordTold cause m) (Irq d.pid d.number) [] (tt, tt) (All-nil (IsRecordTold cause m))
+    deliveries : (o : Option Delivery) → All IsOne (delivery_told o)
+    deliveries None = All-nil IsOne
+    deliveries (Some d) = All-cons IsOne (Irq d.pid d.number) [] (tt, tt) (All-nil IsOne)
 
-    deaths : (o : Option Pid) → All (IsRecordTold cause m) (death_told o)
-    deaths None = All-nil (IsRecordTold cause m)
-    deaths (Some pid) = All-cons (IsRecordTold cause m) (Gone pid) [] (tt, tt) (All-nil (IsRecordTold cause m))
+    deaths : (o : Option Pid) → All IsOne (death_told o)
+    deaths None = All-nil IsOne
+    deaths (Some pid) = All-cons IsOne (Gone pid) [] (tt, tt) (All-nil IsOne)
 
-    settled_told : All (IsRecordTold cause m) (settled change).told
+    settled_told : All IsOne (settled change).told
     unfolding settled
     settled_told =
-        All-append (IsRecordTold cause m) (replies change.machine.processes change.answers) (delivery_told change.delivery ++ death_told change.gone) all_replies
-        (All-append (IsRecordTold cause m) (delivery_told change.delivery) (death_told change.gone) (deliveries change.delivery) (deaths change.gone))
+        All-append IsOne (replies change.machine.processes change.answers) (delivery_told change.delivery ++ death_told change.gone) all_replies
+        (All-append IsOne (delivery_told change.delivery) (death_told change.gone) (deliveries change.delivery) (deaths change.gone))
 
     settled_servers : (settled change).machine.servers ≡ change.machine.servers
     unfolding settled
@@ -116,7 +133,7 @@ module _ (cause : Cause) where
     pub change_does : Does cause m (settled change)
     change_does = record {
       servers = λ n. step_to cause m change.machine (settled change).machine settled_servers (λ pid. change.gone ≡ Some pid) (DiesIn (settled change).told) dies n (servers n);
-      told = settled_told;
+      told = subst (λ left. All (IsRecordTold cause m left) (settled change).told) (sym settled_servers) settled_told;
     }
 
   -- ---- calls
@@ -131,11 +148,11 @@ module _ (cause : Cause) where
     unfolding call_settled turn
     outcome_does (Refused error) e = record {
       servers = λ n. Stays refl;
-      told = All-cons (IsRecordTold cause m) (Reply m.cursor (refused_words error)) [] (inl refl, not_cursor m ready (refused_words error)) (All-nil (IsRecordTold cause m));
+      told = All-cons (IsRecordTold cause m m.servers) (Reply m.cursor (refused_words error)) [] (inl refl, not_cursor m ready m.servers (refused_words error)) (All-nil (IsRecordTold cause m m.servers));
     }
     outcome_does Retried e = record {
       servers = λ n. Stays refl;
-      told = All-cons (IsRecordTold cause m) (Retry m.cursor) [] (tt, tt) (All-nil (IsRecordTold cause m));
+      told = All-cons (IsRecordTold cause m m.servers) (Retry m.cursor) [] (tt, tt) (All-nil (IsRecordTold cause m m.servers));
     }
     outcome_does (Served change) e =
         let of : Serves cause m change = subst (OfServed (Serves cause m)) e (served_serves cause by_step m h ready w acts calls (went change e)) in
@@ -154,26 +171,29 @@ module _ (cause : Cause) where
   death_servers m n pid e =
       ap (λ (s : ℕ → Option Server). λ k. option_map (with_senderless_from pid) (option_map (without_queued_from pid) (if is_server_of pid (s k) then None else s k))) e
 
-  death_answers_meant : (m n : Machine) (pid : Pid) → AreMeant cause m (death pid n).answers
+  death_answers_meant : (m : Machine) → Matched m → (n : Machine) (pid : Pid) → n.servers ≡ m.servers → AreMeant cause m (death pid n).machine.servers (death pid n).answers
   unfolding death servers_closed closed
-  death_answers_meant m n pid = refused_meant cause m (is_sender_at (λ k. is_server_of pid (n.servers k)) n)
+  death_answers_meant m h n pid e =
+      refused_meant cause m (death pid n).machine.servers (is_sender_at (λ k. is_server_of pid (n.servers k)) n)
+      (senders_lose m h n e (λ k. is_server_of pid (n.servers k)) (death pid n).machine.servers (death_ends cause n pid))
 
-  pub death_does : (m n : Machine) (pid : Pid) (answers : Answers) → n.servers ≡ m.servers → AreMeant cause m answers → Does cause m (settled (record (death pid n) { answers = answers }))
+  pub death_does : (m n : Machine) (pid : Pid) (answers : Answers) → n.servers ≡ m.servers → AreMeant cause m (death pid n).machine.servers answers
+      → Does cause m (settled (record (death pid n) { answers = answers }))
   death_does m n pid answers e meant =
       change_does m (record (death pid n) { answers = answers })
       (λ k. step_to cause m (death pid m).machine (death pid n).machine (death_servers m n pid e) (λ other. Some pid ≡ Some other) (λ other. (death pid n).gone ≡ Some other)
       (λ other dies. unfold death in dies) k (death_serves cause m pid k)) meant
 
-  dies_does : (m n : Machine) (pid : Pid) → n.servers ≡ m.servers → Does cause m (settled (death pid n))
-  dies_does m n pid e = death_does m n pid (death pid n).answers e (death_answers_meant m n pid)
+  dies_does : (m : Machine) → Matched m → (n : Machine) (pid : Pid) → n.servers ≡ m.servers → Does cause m (settled (death pid n))
+  dies_does m h n pid e = death_does m n pid (death pid n).answers e (death_answers_meant m h n pid e)
 
   handler_does : (m n : Machine) → n.servers ≡ m.servers → (pid : Pid) (k : ℕ) (o : Option Claim) (cursor : ThreadId)
       → Does cause m (settled (record (handler_started n pid k o) { machine = record (handler_started n pid k o).machine { cursor = cursor } }))
   handler_does m n e pid k None cursor =
-      change_does m (record (only n) { machine = record n { cursor = cursor } }) (λ j. Stays (ap (λ (s : ℕ → Option Server). s j) e)) (none_meant cause m)
+      change_does m (record (only n) { machine = record n { cursor = cursor } }) (λ j. Stays (ap (λ (s : ℕ → Option Server). s j) e)) (none_meant cause m n.servers)
   handler_does m n e pid k (Some claim) cursor =
       let change = handler_started n pid k (Some claim) in
-      change_does m (record change { machine = record change.machine { cursor = cursor } }) (λ j. Stays (ap (λ (s : ℕ → Option Server). s j) e)) (none_meant cause m)
+      change_does m (record change { machine = record change.machine { cursor = cursor } }) (λ j. Stays (ap (λ (s : ℕ → Option Server). s j) e)) (none_meant cause m n.servers)
 
   lowest_does : (m n : Machine) → n.servers ≡ m.servers → (pid : Pid) (o : Option ℕ) (cursor : ThreadId)
       → Does cause m (settled (record (delivered_lowest n pid o) { machine = record (delivered_lowest n pid o).machine { cursor = cursor } }))
@@ -202,9 +222,9 @@ module _ (cause : Cause) where
     told = told;
   }
     where
-      of : (what : What) → IsRecordTold cause (turned_to who m) what → IsRecordTold cause m what
+      of : (what : What) → IsRecordTold cause (turned_to who m) done.machine.servers what → IsRecordTold cause m done.machine.servers what
       of (Call other words) d = (tt, tt)
-      of (Reply other words) d = (meant_like cause m who acts turned other words d.0, λ number waits. answer_like cause m who acts turned number words (d.1 number waits))
+      of (Reply other words) d = (meant_like cause m who acts turned other words d.0, λ number waits. answer_like cause m who acts turned done.machine.servers number words (d.1 number waits))
       of (Retry other) d = (tt, tt)
       of (Byte other byte) d = (tt, tt)
       of (Fault other code value) d = (tt, tt)
@@ -212,7 +232,7 @@ module _ (cause : Cause) where
       of (Irq pid k) d = (tt, tt)
       of (Gone pid) d = (tt, tt)
 
-      told : All (IsRecordTold cause m) done.told
+      told : All (IsRecordTold cause m done.machine.servers) done.told
       told k d low = of (slice_index_or done.told k d) (does.told k d low)
 
   module _ (by_step : cause ≡ ByStep) (m : Machine) (h : Matched m) (who : ThreadId) (acts : actor m ≡ Some who) where
@@ -239,10 +259,10 @@ module _ (cause : Cause) where
     executed_does t there CallsKernel e =
         back m who acts turned_acts _
         (call_does n (matched_at who m h) (actor_ready m who acts) (arguments_of t.regs) turned_acts (call_turned m who ∙ is_call m who t there e) by_step)
-    executed_does t there (Traps code value) e = first_does m (Fault who code value) (settled (death who.pid n)) (tt, tt) (dies_does m n who.pid refl)
+    executed_does t there (Traps code value) e = first_does m (Fault who code value) (settled (death who.pid n)) (tt, tt) (dies_does m h n who.pid refl)
 
-    joiners_meant : (a0 : ℕ) → AreMeant cause m (joiners_answered n who a0)
-    joiners_meant a0 id words e = go (waits_for_end who id (n.threads id)) refl e
+    joiners_meant : (a0 : ℕ) (servers : ℕ → Option Server) → AreMeant cause m servers (joiners_answered n who a0)
+    joiners_meant a0 servers id words e = go (waits_for_end who id (n.threads id)) refl e
       where
         joins : (o : Option Thread) → waits_for_end who id o ≡ true → (number : Number)
             → option_map_or (λ (x : Thread). is_waiting_for number x.state) o false ≡ true → ⊥
@@ -256,9 +276,9 @@ module _ (cause : Cause) where
             by (Joining tid) q r = false≢true r
             by Idle q r = false≢true q
 
-        go : (b : Bool) → waits_for_end who id (n.threads id) ≡ b → (if b then Some (scalar1_words a0) else None) ≡ Some words → IsTold cause m id words
+        go : (b : Bool) → waits_for_end who id (n.threads id) ≡ b → (if b then Some (scalar1_words a0) else None) ≡ Some words → IsTold cause m servers id words
         go true p q =
-            subst (IsTold cause m id) (same_Some (scalar1_words a0) words q)
+            subst (IsTold cause m servers id) (same_Some (scalar1_words a0) words q)
             (inl refl, λ number waits. absurd (joins (m.threads id) p number waits))
         go false p q = absurd (none-some words q)
 
@@ -271,10 +291,11 @@ module _ (cause : Cause) where
         }))
         go true =
             change_does m (record (only (put_thread who None n)) { answers = both_answers (joiners_answered n who a0) no_answers }) (λ k. Stays refl)
-            (both_meant cause m (joiners_answered n who a0) no_answers (joiners_meant a0) (none_meant cause m))
+            (both_meant cause m m.servers (joiners_answered n who a0) no_answers (joiners_meant a0 m.servers) (none_meant cause m m.servers))
         go false =
             death_does m (put_thread who None n) who.pid (both_answers (joiners_answered n who a0) (death who.pid (put_thread who None n)).answers) refl
-            (both_meant cause m (joiners_answered n who a0) (death who.pid (put_thread who None n)).answers (joiners_meant a0) (death_answers_meant m (put_thread who None n) who.pid))
+            (both_meant cause m (death who.pid (put_thread who None n)).machine.servers (joiners_answered n who a0) (death who.pid (put_thread who None n)).answers
+            (joiners_meant a0 (death who.pid (put_thread who None n)).machine.servers) (death_answers_meant m h (put_thread who None n) who.pid refl))
 
     handler_end_does : Does cause m (after (End who) (settled (handler_ended who.pid n)))
     unfolding handler_ended
@@ -297,7 +318,7 @@ module _ (cause : Cause) where
     )
 
   -- the timer takes no record away
-  timed_tells : (what : What) (done : Told) → Contains done.told what → Contains (timed done).told what
+  pub timed_tells : (what : What) (done : Told) → Contains done.told what → Contains (timed done).told what
   timed_tells what done there = go (is_due done.machine.compare done.machine.steps)
     where
       with_one : (d : Delivery) (told : List What) → Contains told what → Contains (with_irq d told) what
@@ -322,25 +343,26 @@ module _ (cause : Cause) where
   timed_does m done does = record {
     servers = λ n. step_to cause m done.machine (timed done).machine (ap (λ (x : Machine). x.servers) (timed_raised done).is) (DiesIn done.told) (DiesIn (timed done).told)
         (λ pid dies. timed_tells (Gone pid) done dies) n (does.servers n);
-    told = timed_holds (IsRecordTold cause m) (λ pid k. (tt, tt)) (λ pid. (tt, tt)) done does.told;
+    told = subst (λ servers. All (IsRecordTold cause m servers) (timed done).told) (sym (ap (λ (x : Machine). x.servers) (timed_raised done).is))
+        (timed_holds (IsRecordTold cause m done.machine.servers) (λ pid k. (tt, tt)) (λ pid. (tt, tt)) done does.told);
   }
 
   -- ---- any cause
 
   pub record DoesSo (m : Machine) (next : Recorded) : Type 0 where
     pub servers : (n : ℕ) → ServerStep n cause m next.machine (DiesIn (map (λ (rec : Rec). rec.what) next.records))
-    pub told : All (λ (rec : Rec). IsRecordTold cause m rec.what) next.records
+    pub told : All (λ (rec : Rec). IsRecordTold cause m next.machine.servers rec.what) next.records
 
   recorded_so : (m : Machine) (k : ℕ) (done : Told) → Does cause m done → DoesSo m (record { machine = done.machine; records = map (record_of k) done.told })
   recorded_so m k done does = record {
     servers = λ n. subst (λ told. ServerStep n cause m done.machine (DiesIn told)) (sym (numbered k done.told)) (does.servers n);
-    told = All-map (λ (rec : Rec). IsRecordTold cause m rec.what) (record_of k) done.told does.told;
+    told = All-map (λ (rec : Rec). IsRecordTold cause m done.machine.servers rec.what) (record_of k) done.told does.told;
   }
 
   nothing_so : (m next : Machine) → next.servers ≡ m.servers → DoesSo m (record { machine = next; records = [] })
   nothing_so m next same = record {
     servers = λ n. Stays (ap (λ (s : ℕ → Option Server). s n) same);
-    told = All-nil (λ (rec : Rec). IsRecordTold cause m rec.what);
+    told = All-nil (λ (rec : Rec). IsRecordTold cause m next.servers rec.what);
   }
 
   counted_does : (m n : Machine) (t : Thread) (done : Told) → Does cause m done → Does cause m (counted n (Some t) done)
@@ -375,7 +397,7 @@ cause_so (ByKill pid) m h = go (m.process pid.0).alive
   where
     go : (b : Bool) → DoesSo (ByKill pid) m (killed_if b pid (unreserved m))
     go false = nothing_so (ByKill pid) m (unreserved m) refl
-    go true = recorded_so (ByKill pid) m m.steps (settled (death pid (unreserved m))) (dies_does (ByKill pid) m (unreserved m) pid refl)
+    go true = recorded_so (ByKill pid) m m.steps (settled (death pid (unreserved m))) (dies_does (ByKill pid) m h (unreserved m) pid refl)
 cause_so ByTurn m h = nothing_so ByTurn m (turn m) refl
 
 pub all_served : AllAreServed
@@ -383,5 +405,42 @@ all_served cause m h =
     let so = cause_so cause m h in
     record { servers = so.servers; deliveries = λ k d low. (so.told k d low).0 }
 
+-- a server that is gone ended in this moment
+unserved_of : (cause : Cause) (m : Machine) → Matched m → (number : Number) → LosesServer number m (caused cause m).servers → IsUnserved number cause m
+unserved_of cause m h number left = at (m.servers left.n) refl ((all_served cause m h).servers left.n)
+  where
+    at : (o : Option Server) → m.servers left.n ≡ o → ServerStep left.n cause m (caused cause m) (DiesIn (told_by cause m)) → IsUnserved number cause m
+    at None there step = absurd (left.had (ap (keeping number) there))
+    at (Some server) there step = record {
+      n = left.n;
+      server = server;
+      there = there;
+      had = λ lacks. left.had (ap (keeping number) there ∙ lacks);
+      gone = left.gone;
+      ends = by step;
+    }
+      where
+        by : ServerStep left.n cause m (caused cause m) (DiesIn (told_by cause m)) → DiesIn (told_by cause m) server.pid ⊎ IsDestroyed left.n server cause m
+        by (Stays e) = absurd (none-some server (sym left.gone ∙ (e ∙ there)))
+        by (Founded new none now queued held) = absurd (none-some new (sym left.gone ∙ now))
+        by (Ends old was gone why) =
+            subst (λ (s : Server). DiesIn (told_by cause m) s.pid ⊎ IsDestroyed left.n s cause m) (same_Some old server (sym was ∙ there)) why
+        by (Lists before after_it was now step) = absurd (none-some after_it (sym left.gone ∙ now))
+
+answered_so : (cause : Cause) (m : Machine) → Matched m → (what : What) → IsReplied m (caused cause m).servers what → IsSenderAnswered cause m what
+answered_so cause m h (Call who words) is = tt
+answered_so cause m h (Reply who words) is = λ number waits. by number (is number waits)
+  where
+    by : (number : Number) → IsAnswerBy number words m (caused cause m).servers → IsAnswerTo number words cause m
+    by number (inl returned) = inl returned
+    by number (inr (refused, left)) = inr (refused, unserved_of cause m h number left)
+answered_so cause m h (Retry who) is = tt
+answered_so cause m h (Byte who byte) is = tt
+answered_so cause m h (Fault who code value) is = tt
+answered_so cause m h (End who) is = tt
+answered_so cause m h (Irq pid k) is = tt
+answered_so cause m h (Gone pid) is = tt
+
 pub senders_answered : SendersAreAnswered
-senders_answered cause m h k d low = ((cause_so cause m h).told k d low).1
+senders_answered cause m h k d low =
+    answered_so cause m h (slice_index_or (records_by cause m) k d).what ((cause_so cause m h).told k d low).1

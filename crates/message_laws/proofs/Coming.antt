@@ -1,0 +1,3 @@
+pub mod CauseLemmas
+pub mod LedgerLemmas
+pub mod RowLemmas
