@@ -1,5 +1,6 @@
--- The order in which the records of one step or event stand, and the numbers of steps over a run. First comes what the thread does: its call, its byte for the console, its
--- fault or its end. Then the retry of its call; then replies, by pid and then by tid; then interrupts, by pid; then the death.
+-- The order in which the records of one step or event stand, and the numbers of steps over a run. First comes what the thread does: its
+-- call, its byte for the console, its fault or its end. Then the retry of its call; then replies, by pid and then by tid; then interrupts,
+-- by pid; then the death.
 use Rattle.std.specs.Prelude.{◌≡◌, ℕ, ◌<◌, ◌≤◌, ◌⊎◌, List}
 use Rattle.std.specs.List.{AllPairs}
 use Rattle.xk_base.specs.declared.records.Rec.{Rec}
