@@ -203,6 +203,27 @@ class Releases(unittest.TestCase):
             self.assertEqual(data, self.tree.program(name).read_bytes())
             self.assertIn(f"sha256 {hashlib.sha256(data).hexdigest()} {name}\n", said)
 
+    def test_what_it_has(self):
+        """Both programs, the tools, the kits for C and Rust, examples, pages, man pages and completions."""
+        for path in (
+            *(f"bin/{name}" for name in (*PROGRAMS, "xous-view", "xous-image", "xous-gdb", "xous-where", "xous-new", "xous-state", "xous-events")),
+            *(f"lib/xousim/{name}" for name in PROGRAMS),
+            *(f"share/xousim/examples/kit/{name}" for name in ("kit.mk", "xous.h", "test", "new/workflow.yml", "rust/cargo", "rust/xous/src/lib.rs")),
+            *(f"share/doc/xousim/{name}" for name in ("README.md", "docs/tutorial.md", "examples/lend/image", "PROVED", "copyright")),
+            "share/man/man1/xousim.1.gz",
+            "share/bash-completion/completions/xousim",
+            "share/zsh/vendor-completions/_xousim",
+        ):
+            self.assertTrue(self.installed(path).exists(), path)
+
+    def test_dependencies(self):
+        run = subprocess.run(["dpkg-deb", "-f", self.deb, "Depends", "Recommends", "Suggests"], capture_output=True, text=True, check=True)
+        fields = dict(line.split(": ") for line in run.stdout.splitlines())
+        packages = {field: {name.split(" ")[0] for name in names.split(", ")} for field, names in fields.items()}
+        self.assertLessEqual({"python3", "python3-pyelftools"}, packages["Depends"])
+        self.assertLessEqual({"make", "gcc-riscv64-unknown-elf", "gdb-multiarch"}, packages["Recommends"])
+        self.assertLessEqual({"cargo-web", "rustc-web", "rust-web-src", "lld"}, packages["Suggests"])
+
     def test_the_archive_has_the_files_of_the_package(self):
         top = self.fresh()
         subprocess.run(["tar", "-xJf", self.made / f"xousim-{self.version}-linux-amd64.tar.xz", "-C", top], check=True)
