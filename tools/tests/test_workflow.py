@@ -5,7 +5,6 @@ test, apt-get installs nothing but the release, and the address of the release i
 """
 
 import os
-import pathlib
 import re
 import subprocess
 
