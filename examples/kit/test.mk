@@ -3,24 +3,27 @@
 #     make test        compares the transcript of EVENTS with EXPECTED, and searches the orders of the threads
 #     make expected    stores the transcript
 #
-# SEARCH has words for the search (docs/orders.md), such as `--quantum 1` for threads of one process that share memory.
+# SEARCH has words for the search (docs/orders.md), such as `--quantum 1` for threads of one process that share memory. STEPS is the step
+# limit of a run, if it isn't that of xousim.
 
 EVENTS ?= events
 EXPECTED ?= expected
 SEARCH ?=
+STEPS ?=
 XOUSIM ?= $(KIT)/../../xousim
 # The words of the debugger: the programs by pid.
 ELFS = $(shell pid=2; for name in $(PROGRAMS); do echo "--elf $$pid=out/$$name.elf"; pid=$$((pid + 1)); done)
+TEST = ELFS='$(ELFS)' STEPS='$(STEPS)' $(KIT)/test
 
 test: test-transcript test-orders
 
 test-transcript: $(IMAGE)
-	@ELFS='$(ELFS)' $(KIT)/test transcript $(IMAGE) $(EVENTS) $(EXPECTED)
+	@$(TEST) transcript $(IMAGE) $(EVENTS) $(EXPECTED)
 
 test-orders: $(IMAGE)
-	@ELFS='$(ELFS)' $(KIT)/test orders $(IMAGE) out/orders $(SEARCH)
+	@$(TEST) orders $(IMAGE) out/orders $(SEARCH)
 
 $(EXPECTED): $(IMAGE)
-	$(XOUSIM) trace $(IMAGE) $(EVENTS) >$@
+	$(XOUSIM) trace $(IMAGE) $(EVENTS) $(STEPS) >$@.new && mv $@.new $@ || { rm -f $@.new; exit 1; }
 
 .PHONY: test test-transcript test-orders $(EXPECTED)

@@ -6,6 +6,7 @@ import dataclasses
 import importlib.util
 import os
 import pathlib
+import re
 import shutil
 import subprocess
 import sys
@@ -24,6 +25,7 @@ PACKAGES = {
     GDB: "gdb-multiarch",
     "llvm-mc": "llvm",
     "bash": "bash",
+    "curl": "curl",
     "dpkg-deb": "dpkg",
     "git": "git",
     "lintian": "lintian",
@@ -33,6 +35,7 @@ PACKAGES = {
     "chromium": "chromium",
     "elftools": "python3-pyelftools",
     "hypothesis": "python3-hypothesis",
+    "yaml": "python3-yaml",
     "mypy": "mypy",
     "pylint": "pylint",
 }
@@ -63,7 +66,7 @@ def need_searcher() -> str:
 
 
 def is_there(name: str) -> bool:
-    if name in ("elftools", "hypothesis"):
+    if name in ("elftools", "hypothesis", "yaml"):
         return importlib.util.find_spec(name) is not None
     return shutil.which(name) is not None
 
@@ -73,6 +76,20 @@ def need(*names: str) -> None:
     missing = [name for name in names if not is_there(name)]
     if missing:
         raise unittest.SkipTest(f"{', '.join(missing)} missing: apt-get install {' '.join(PACKAGES[name] for name in missing)}")
+
+
+def need_rust() -> None:
+    """Skips the test where a package of the kit for Rust is missing, or is Debian's older one without the edition 2024."""
+    usr = pathlib.Path(os.environ.get("RUST_ROOT") or "/", "usr")
+    parts = {"bin/cargo": "cargo-web", "bin/rustc": "rustc-web", "lib/rustlib/src/rust/library/std": "rust-web-src"}
+    missing = [package for part, package in parts.items() if not (usr / part).exists()]
+    missing += [package for name, package in (("ld.lld", "lld"), ("elftools", "python3-pyelftools")) if not is_there(name)]
+    if missing:
+        raise unittest.SkipTest(f"the kit for Rust: apt-get install {' '.join(missing)}")
+    said = subprocess.run([usr / "bin" / "rustc", "--version"], capture_output=True, text=True, check=False).stdout
+    found = re.match(r"rustc 1\.(\d+)", said)
+    if not found or int(found[1]) < 85:
+        raise unittest.SkipTest(f"the kit for Rust: {usr}/bin/rustc is {said.strip() or 'no compiler'}: apt-get install rustc-web cargo-web")
 
 
 class Case(unittest.TestCase):

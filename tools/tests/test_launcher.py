@@ -154,6 +154,19 @@ class Launcher(unittest.TestCase):
         self.assert_played()
         self.assertEqual(self.tree.count("starts"), 0)
 
+    def test_first_look_is_named_before_a_build(self):
+        """A start that builds says how long that takes, and what gives a first look. It never takes an unproved build by itself."""
+        _, _, said = self.tree.start()
+        sentence = (
+            "xousim: proving and building 2 crates, which takes up to an hour the first time; for a first look without a proof, "
+            "tools/xous-try runs a command of xousim in a minute or two"
+        )
+        self.assertEqual(said.splitlines()[0], sentence)
+        self.tree.program.unlink()
+        self.tree.rt(FAILS)
+        self.assert_refused("an open goal")
+        self.assertEqual((self.tree.commands / "starts").read_text(), "rt run\nrt run\n")
+
     def test_kept_program_is_not_touched(self):
         """rt leaves a program that doesn't change as it is: its time stays, and it isn't built again."""
         self.tree.has_built("kept")

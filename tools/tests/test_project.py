@@ -1,9 +1,12 @@
-"""Projects of xous-new --c and --rust, and the kit's script for their tests: over stand-ins, and over the programs where they are given."""
+"""Projects of xous-new --c and --rust, and the kit's script for their tests: over stand-ins, and over the programs where they are given.
+
+That a service for continuous integration can run a project's tests is in test_workflow.py.
+"""
 
 import os
 import subprocess
 
-from .frame import COMPILER, EXAMPLES, GIVEN, TOOLS, Case, need, need_program, need_searcher
+from .frame import COMPILER, EXAMPLES, GIVEN, TOOLS, Case, is_there, need, need_program, need_rust, need_searcher
 
 SCRIPT = EXAMPLES / "kit" / "test"
 # A search that finds so many endings, of which it writes the files.
@@ -19,12 +22,18 @@ exit STATUS
 """
 
 
+def environment():
+    """Where the programs are."""
+    programs = {"XOUSIM": GIVEN.program, "XOUSORDERS": GIVEN.searcher}
+    return {**os.environ, **{name: path for name, path in programs.items() if path}}
+
+
 class Script(Case):
     """examples/kit/test, whose programs are stand-ins."""
 
     def setUp(self):
         super().setUp()
-        self.program("xousim", "#!/bin/sh\ncat told\n")
+        self.program("xousim", '#!/bin/sh\necho "$*" >words\ncat told\n')
         (self.folder / "told").write_text("1 2.2 byte 68\nend 1 done\n")
         (self.folder / "expected").write_text("1 2.2 byte 68\nend 1 done\n")
 
@@ -40,15 +49,16 @@ class Script(Case):
             text = text.replace(name, value)
         self.program("xousorders", text)
 
-    def start(self, *words):
+    def start(self, *words, **more):
         programs = {"XOUSIM": "./xousim", "XOUSORDERS": "./xousorders", "ELFS": "--elf 2=out/mine.elf", "PATH": "/usr/bin:/bin"}
-        ran = subprocess.run([SCRIPT, *words], cwd=self.folder, env={**os.environ, **programs}, capture_output=True, text=True, check=False)
+        env = {**os.environ, **programs, **more}
+        ran = subprocess.run([SCRIPT, *words], cwd=self.folder, env=env, capture_output=True, text=True, check=False)
         return ran.returncode, ran.stdout + ran.stderr
 
-    def holds_commands(self, said, events):
+    def holds_commands(self, said, events, words=None):
         self.assertIn(f"event file: {events}\n", said)
-        self.assertIn(f"./xousim trace mine.img {events} | {TOOLS}/xous-view --image mine.img --chart chart.html\n", said)
-        self.assertIn(f"-ex 'target remote | {TOOLS}/xous-gdb mine.img {events} --elf 2=out/mine.elf'\n", said)
+        self.assertIn(f"./xousim trace mine.img {words or events} | {TOOLS}/xous-view --image mine.img --chart chart.html\n", said)
+        self.assertIn(f"-ex 'target remote | {TOOLS}/xous-gdb mine.img {words or events} --elf 2=out/mine.elf'\n", said)
 
     def test_a_transcript_as_stored(self):
         wanted = (0, "mine.img: the transcript of events is as stored\n")
@@ -98,6 +108,17 @@ class Script(Case):
         self.assertEqual(status, 2)
         self.assertIn("xousorders ended with 9", said)
 
+    def test_a_step_limit(self):
+        (self.folder / "told").write_text("1 2.2 byte 69\nend 1 done\n")
+        status, said = self.start("transcript", "mine.img", "events", "expected", STEPS="9")
+        self.assertEqual((status, (self.folder / "words").read_text()), (1, "trace mine.img events 9\n"))
+        self.holds_commands(said, "events", "events 9")
+
+    def test_commands_alone(self):
+        status, said = self.start("commands", "mine.img", "events")
+        self.assertEqual((status, said.count("\n")), (0, 3))
+        self.holds_commands(said, "events")
+
     def test_other_words(self):
         status, said = self.start("orders")
         self.assertEqual(status, 2)
@@ -111,10 +132,27 @@ class Projects(Case):
         return self.folder / "mine"
 
     def make(self, folder, *words):
-        programs = {"XOUSIM": GIVEN.program, "XOUSORDERS": GIVEN.searcher}
-        env = {**os.environ, **{name: path for name, path in programs.items() if path}}
-        ran = subprocess.run(["make", "-s", *words], cwd=folder, env=env, capture_output=True, text=True, check=False)
+        ran = subprocess.run(["make", "-s", *words], cwd=folder, env=environment(), capture_output=True, text=True, check=False)
         return ran.returncode, ran.stdout + ran.stderr
+
+    def change(self, path, old, new):
+        text = path.read_text()
+        self.assertIn(old, text)
+        path.write_text(text.replace(old, new))
+
+    def run_commands(self, said, folder):
+        """The commands that are named last are run as they are written: one draws a chart, and the other starts gdb."""
+        commands = [line.split(":", 1)[1].strip() for line in said.splitlines() if line.startswith(("  chart: ", "  debugger: "))]
+        self.assertGreaterEqual(len(commands), 2, said)
+        chart, debugger = commands[-2:]
+        (folder / "chart.html").unlink(missing_ok=True)
+        drawn = subprocess.run(["sh", "-c", chart], cwd=folder, env=environment(), capture_output=True, text=True, check=False)
+        self.assertEqual(drawn.returncode, 0, drawn.stderr)
+        self.assertTrue((folder / "chart.html").read_text().startswith("<!"))
+        if is_there("gdb-multiarch"):
+            debugger = debugger.replace("gdb-multiarch", "gdb-multiarch -nx -batch -ex 'set remotetimeout 100'") + " -ex 'info threads' </dev/null"
+            shown = subprocess.run(["sh", "-c", debugger], cwd=folder, env=environment(), capture_output=True, text=True, check=False)
+            self.assertIn("Thread", shown.stdout, shown.stderr)
 
     def test_files(self):
         for kind, names in (
@@ -160,18 +198,47 @@ class Projects(Case):
         self.assertIn("event file: events\n", said)
 
     def test_the_commands_that_are_named(self):
-        """A lost sum: the commands of the last ending are run as they are written."""
+        """A lost sum: the commands of the last ending."""
         need("gdb-multiarch")
         need_program()
         need_searcher()
-        programs = {"XOUSIM": GIVEN.program, "XOUSORDERS": GIVEN.searcher}
         words = [SCRIPT, "orders", EXAMPLES / "orders" / "lost.image", "orders", "--quantum", "1"]
-        ran = subprocess.run(words, cwd=self.folder, env={**os.environ, **programs}, capture_output=True, text=True, check=False)
+        ran = subprocess.run(words, cwd=self.folder, env=environment(), capture_output=True, text=True, check=False)
         self.assertEqual(ran.returncode, 1, ran.stderr)
-        chart, debugger = (line.split(":", 1)[1].strip() for line in ran.stdout.splitlines()[-2:])
-        drawn = subprocess.run(["sh", "-c", chart], cwd=self.folder, env={**os.environ, **programs}, capture_output=True, text=True, check=False)
-        self.assertEqual(drawn.returncode, 0, drawn.stderr)
-        self.assertTrue((self.folder / "chart.html").read_text().startswith("<!"))
-        debugger = debugger.replace("gdb-multiarch", "gdb-multiarch -nx -batch -ex 'set remotetimeout 100'") + " -ex 'info threads' </dev/null"
-        shown = subprocess.run(["sh", "-c", debugger], cwd=self.folder, env={**os.environ, **programs}, capture_output=True, text=True, check=False)
-        self.assertIn("Thread", shown.stdout, shown.stderr)
+        self.run_commands(ran.stdout, self.folder)
+
+    def test_a_project_in_rust(self):
+        """The kit builds std the first time, which takes three minutes of a processor."""
+        need("make")
+        need_rust()
+        need_program()
+        need_searcher()
+        made = self.new("--rust")
+        status, said = self.make(made, "test")
+        self.assertEqual(status, 2, said)
+        self.assertIn("test tests::the_answer under 4 orders ... ok\n", said)
+        self.assertIn("hello from mine, six times seven is 42\n", said)
+        self.assertIn("no stored transcript", said)
+        self.assertEqual(self.make(made, "expected")[0], 0)
+        status, said = self.make(made, "test")
+        self.assertEqual(status, 0, said)
+        self.assertIn("target/xous/mine.img: the transcript of target/xous/mine.events is as stored\n", said)
+        self.assertIn("target/xous/mine.img: 1 ending in all orders", said)
+        self.check_failures_in_rust(made)
+
+    def check_failures_in_rust(self, made):
+        """A unit test, the transcript, and the orders: each that fails names its event file, and two commands."""
+        source = made / "src" / "main.rs"
+        for target, old, new, events in (
+            ("test-units", "42);", "41);", r".*/target/xous/mine-[0-9a-f]+\.tests\.the_answer\.1\.events"),
+            ("test-transcript", "six times seven", "seven times six", "target/xous/mine.events"),
+            ("test-orders", "    println!", '    std::thread::spawn(|| println!("a"));\n    println!', "target/xous/orders/ending-1.events"),
+        ):
+            with self.subTest(target):
+                kept = source.read_text()
+                self.change(source, old, new)
+                status, said = self.make(made, target)
+                self.assertEqual(status, 2, said)
+                self.assertRegex(said, f"(?m)^event file: {events}$")
+                self.run_commands(said, made)
+                source.write_text(kept)

@@ -6,18 +6,13 @@ If no programs are given, a release is made of stand-ins, and no command of it i
 import hashlib
 import os
 import pathlib
-import re
-import shutil
 import subprocess
 import tempfile
 import unittest
 
-from .frame import COMPILER, GDB, GIVEN, ROOT, need, need_program, need_searcher
+from .frame import COMPILER, GDB, ROOT, need, need_program, need_searcher
+from .trees import KIT, NEW, PASSED, PROGRAMS, Tree, all_files, released
 
-PROGRAMS = ("xousim", "xousorders")
-KIT = "a kit of tests"
-PASSED = "xk_base: its tests passed\n7 passed, 0 failed\n"
-OLD, NEW = 1_000_000_000, 1_000_000_100
 RELEASE = [
     str(path.relative_to(ROOT))
     for folder in ("release", "commands", ".")
@@ -25,71 +20,6 @@ RELEASE = [
     if path.is_file()
 ]
 FEW = ["VERSION", ".gitignore", "tools/release", *RELEASE]
-
-
-def is_copied(name):
-    """Sources are no part of a release, and a tree of tests has two of its own."""
-    return not name.startswith(("bench/", "crates/")) or name.startswith("crates/xousim/data/")
-
-
-def all_files():
-    words = ["git", "ls-files", "--cached", "--others", "--exclude-standard"]
-    names = subprocess.run(words, cwd=ROOT, capture_output=True, text=True, check=True).stdout.splitlines()
-    return [name for name in names if is_copied(name) and (ROOT / name).exists()]
-
-
-class Tree:
-    """A repository with files of this one, whose gate is told to have passed: the programs are stand-ins, or those that are given."""
-
-    def __init__(self, top, names):
-        self.top, self.commands = pathlib.Path(top, "tree"), pathlib.Path(top, "commands")
-        for name in names:
-            source, target = ROOT / name, self.top / name
-            target.parent.mkdir(parents=True, exist_ok=True)
-            shutil.copy(source, target, follow_symlinks=False)
-        self.write("crates/low/src/lib.rt", "// low\n")
-        self.write("crates.txt", "low:\n")
-        self.commands.mkdir()
-        (self.commands / "rt").write_text(f"#!/bin/sh\necho '{KIT}'\n")
-        (self.commands / "rt").chmod(0o755)
-        dates = {f"GIT_{who}_DATE": f"{OLD} +0000" for who in ("AUTHOR", "COMMITTER")}
-        self.env = {**os.environ, **dates, "PATH": f"{self.commands}:{os.environ['PATH']}"}
-        self.git("init", "-q", "-b", "main")
-        self.commit("all")
-        for path in self.top.rglob("*"):
-            os.utime(path, (OLD, OLD), follow_symlinks=False)
-        for name, given in zip(PROGRAMS, (GIVEN.program, GIVEN.searcher)):
-            out = self.top / "crates" / name / "out"
-            out.mkdir(parents=True)
-            shutil.copyfile(given or "/bin/true", out / name)
-            os.utime(out / name, (NEW, NEW))
-        self.log = pathlib.Path(top, "log")
-        self.log.write_text(PASSED)
-
-    def program(self, name):
-        return self.top / "crates" / name / "out" / name
-
-    def write(self, name, text):
-        path = self.top / name
-        path.parent.mkdir(parents=True, exist_ok=True)
-        path.write_text(text)
-
-    def git(self, *words):
-        words = ["git", "-c", "user.name=t", "-c", "user.email=t@t", *words]
-        subprocess.run(words, cwd=self.top, env=self.env, check=True, capture_output=True)
-
-    def commit(self, subject):
-        self.git("add", "-A")
-        self.git("commit", "-q", "-m", subject)
-
-    def release(self, *words):
-        """The status, and what is said."""
-        run = subprocess.run([self.top / "tools" / "release", *words], env=self.env, capture_output=True, text=True, check=False)
-        return run.returncode, run.stderr.strip()
-
-    def keep(self):
-        return self.release("--keep-gate", self.log)
-
 
 class RefusedTrees(unittest.TestCase):
     """A tree whose gate didn't pass makes no release, and says why."""
@@ -233,31 +163,16 @@ class Releases(unittest.TestCase):
 
     @classmethod
     def setUpClass(cls):
-        need("git", "dpkg-deb", "readelf")
-        cls.folder = tempfile.TemporaryDirectory()
-        cls.addClassCleanup(cls.folder.cleanup)
-        top = pathlib.Path(cls.folder.name)
-        top.chmod(0o755)
-        cls.made, cls.unpacked = top / "made", top / "unpacked"
-        cls.tree = Tree(top, all_files())
-        status, said = cls.tree.keep()
-        if status == 0:
-            status, said = cls.tree.release(cls.made)
-        if status:
-            raise AssertionError(said)
-        cls.version = (ROOT / "VERSION").read_text().strip()
-        cls.deb = cls.made / f"xousim_{cls.version}_amd64.deb"
-        subprocess.run(["dpkg", "-x", cls.deb, cls.unpacked], check=True)
+        cls.release = released()
+        cls.made, cls.tree, cls.version, cls.deb = cls.release.made, cls.release.tree, cls.release.version, cls.release.deb
 
     def installed(self, path):
-        return self.unpacked / "usr" / path
+        return self.release.installed.path(path)
 
     def run_installed(self, words, folder):
-        """A shell's commands with the installed ones first on a fresh PATH, in a fresh home."""
-        env = {"PATH": f"{self.installed('bin')}:/usr/bin:/bin", "HOME": str(folder), "TMPDIR": str(folder), "LC_ALL": "C.UTF-8"}
-        run = subprocess.run(["sh", "-ec", words], cwd=folder, env=env, capture_output=True, text=True, check=False, timeout=300)
-        self.assertEqual(run.returncode, 0, run.stdout + run.stderr)
-        return run.stdout
+        status, out, said = self.release.installed.run(words, folder)
+        self.assertEqual(status, 0, out + said)
+        return out
 
     def fresh(self):
         folder = tempfile.TemporaryDirectory()
@@ -288,10 +203,31 @@ class Releases(unittest.TestCase):
             self.assertEqual(data, self.tree.program(name).read_bytes())
             self.assertIn(f"sha256 {hashlib.sha256(data).hexdigest()} {name}\n", said)
 
+    def test_what_it_has(self):
+        """Both programs, the tools, the kits for C and Rust, examples, pages, man pages and completions."""
+        for path in (
+            *(f"bin/{name}" for name in (*PROGRAMS, "xous-view", "xous-image", "xous-gdb", "xous-where", "xous-new", "xous-state", "xous-events")),
+            *(f"lib/xousim/{name}" for name in PROGRAMS),
+            *(f"share/xousim/examples/kit/{name}" for name in ("kit.mk", "xous.h", "test", "new/workflow.yml", "rust/cargo", "rust/xous/src/lib.rs")),
+            *(f"share/doc/xousim/{name}" for name in ("README.md", "docs/tutorial.md", "examples/lend/image", "PROVED", "copyright")),
+            "share/man/man1/xousim.1.gz",
+            "share/bash-completion/completions/xousim",
+            "share/zsh/vendor-completions/_xousim",
+        ):
+            self.assertTrue(self.installed(path).exists(), path)
+
+    def test_dependencies(self):
+        run = subprocess.run(["dpkg-deb", "-f", self.deb, "Depends", "Recommends", "Suggests"], capture_output=True, text=True, check=True)
+        fields = dict(line.split(": ") for line in run.stdout.splitlines())
+        packages = {field: {name.split(" ")[0] for name in names.split(", ")} for field, names in fields.items()}
+        self.assertLessEqual({"python3", "python3-pyelftools"}, packages["Depends"])
+        self.assertLessEqual({"make", "gcc-riscv64-unknown-elf", "gdb-multiarch"}, packages["Recommends"])
+        self.assertLessEqual({"cargo-web", "rustc-web", "rust-web-src", "lld"}, packages["Suggests"])
+
     def test_the_archive_has_the_files_of_the_package(self):
         top = self.fresh()
         subprocess.run(["tar", "-xJf", self.made / f"xousim-{self.version}-linux-amd64.tar.xz", "-C", top], check=True)
-        self.assertEqual(contents(top / f"xousim-{self.version}"), contents(self.unpacked / "usr"))
+        self.assertEqual(contents(top / f"xousim-{self.version}"), contents(self.release.installed.path("")))
 
     def test_lintian(self):
         need("lintian")
@@ -343,18 +279,6 @@ class Releases(unittest.TestCase):
         words = self.run_installed(f"xousim trace {lend}/image {lend}/events | xous-view", self.fresh())
         self.assertIn("3.2", words)
         self.assertIn("2.2", self.run_installed(f"xous-where {lend}/image {lend}/events", self.fresh()))
-
-    def test_the_commands_of_readme(self):
-        """They run as they are written in the installed folder that is laid out as a checkout; those for a checkout alone are left out."""
-        need_program()
-        need("make", COMPILER)
-        top = self.installed("share/xousim")
-        blocks = re.findall(r"(?:^    .*\n)+", (top / "README.md").read_text(), re.M)
-        commands = re.compile(r"    (?:\./xousim |\./xousorders |tools/xous-|make -C )")
-        played = [block for block in blocks if commands.match(block) and not re.search("xous-try|cargo", block)]
-        self.assertGreaterEqual(len(played), 2)
-        told = [self.run_installed(f"cd {top}\n{block}", self.fresh()) for block in played]
-        self.assertIn("end 100 done\n", told[0])
 
     def test_orders(self):
         need_searcher()

@@ -1,14 +1,11 @@
-"""xous-try: which words it gives to rt, what it says, and what it ends with, over a stand-in for rt; and once over rt itself."""
+"""xous-try: which words it gives to rt, what it says, and what it ends with, over a stand-in for rt. test_readme.py runs it over rt itself."""
 
 import os
-import shutil
 import subprocess
-import unittest
 
 from .frame import ROOT, Case
 
 TRY = ROOT / "tools" / "xous-try"
-FIRST = ROOT / "crates" / "xousim" / "data" / "first"
 # Notes its folder and words, and what the first file has that it is given.
 RT = """#!/bin/sh
 pwd
@@ -18,13 +15,6 @@ echo "interpreter: no-answer: a call" >&2
 """
 ENDED = "echo 'step limit 5' >&2; echo 'checked: ended status=7' >&2; echo 'run=ended status=7 runners=1 proved=no' >&2; exit 7\n"
 UNANSWERED = "echo 'checked: no-answer: the time limit' >&2; echo 'run=no-answer proved=no' >&2; exit 2\n"
-# What README.md says that it prints.
-LINES = """\
-6 2.2 call 00000002 f0000000 00000000 00001000 00000006 00000000 00000000 00000000
-6 2.2 reply 00000003 60000000 00001000 00000000 00000000 00000000 00000000 00000000
-8 2.2 byte 68
-end 100 done
-"""
 
 
 class StandIn(Case):
@@ -93,11 +83,3 @@ class StandIn(Case):
         found = self.start("--help")
         self.assertEqual((found.returncode, found.stderr), (0, ""))
         self.assertIn("xous-try WORD ..", found.stdout)
-
-
-@unittest.skipUnless(shutil.which("rt"), "command not found: rt")
-class FirstRun(unittest.TestCase):
-    def test_the_lines_of_the_pages(self):
-        words = [TRY, "trace", f"{FIRST}.img", f"{FIRST}.events"]
-        found = subprocess.run(words, capture_output=True, text=True, check=False)
-        self.assertEqual((found.returncode, found.stdout), (0, LINES), found.stderr)

@@ -8,77 +8,77 @@ from __future__ import annotations
 
 import struct
 
+from . import numbers
 from .machine import CONSOLE
 
-YIELD, RECEIVE, SEND, CONNECT, JOIN, TERMINATE = 3, 15, 16, 17, 36, 22
-MAP, UNMAP, MORE_HEAP, LESS_HEAP, FLAGS = 2, 19, 10, 11, 12
-NEW_SERVER_CALL, DESTROY_SERVER, TRY_CONNECT, TRY_RECEIVE, TRY_SEND = 14, 41, 25, 28, 24
-RETURN_MEMORY, RETURN_SCALAR1, RETURN_SCALAR2, FORWARD = 20, 26, 27, 44
-CREATE_THREAD, CLAIM, PROCESS_ID = 18, 5, 43
+NUMBERS = {name: number for number, (name, _) in numbers.CALLS.items()}
+YIELD, RECEIVE, SEND = NUMBERS["Yield"], NUMBERS["ReceiveMessage"], NUMBERS["SendMessage"]
+CONNECT, JOIN, TERMINATE = NUMBERS["Connect"], NUMBERS["JoinThread"], NUMBERS["TerminateProcess"]
+MAP, UNMAP, FLAGS = NUMBERS["MapMemory"], NUMBERS["UnmapMemory"], NUMBERS["UpdateMemoryFlags"]
+MORE_HEAP, LESS_HEAP = NUMBERS["IncreaseHeap"], NUMBERS["DecreaseHeap"]
+NEW_SERVER_CALL, DESTROY_SERVER = NUMBERS["CreateServerWithAddress"], NUMBERS["DestroyServer"]
+TRY_CONNECT, TRY_RECEIVE, TRY_SEND = NUMBERS["TryConnect"], NUMBERS["TryReceiveMessage"], NUMBERS["TrySendMessage"]
+RETURN_MEMORY, FORWARD = NUMBERS["ReturnMemory"], NUMBERS["ForwardMessage"]
+RETURN_SCALAR1, RETURN_SCALAR2 = NUMBERS["ReturnScalar1"], NUMBERS["ReturnScalar2"]
+CREATE_THREAD, CLAIM, PROCESS_ID = NUMBERS["CreateThread"], NUMBERS["ClaimInterrupt"], NUMBERS["GetProcessId"]
 SENDS, TO_SERVERS = (SEND, TRY_SEND), (SEND, TRY_SEND, FORWARD)
 RETURNS = (RETURN_MEMORY, RETURN_SCALAR1, RETURN_SCALAR2)
 CONNECTS, RECEIVES = (CONNECT, TRY_CONNECT), (RECEIVE, TRY_RECEIVE)
 
-# Each call with its words from a1 on: a label and what the word is. A span is two words, an identifier and
+# How fields of a call are written, in a row or one by one: a label, and what the word is. A span is two words, an identifier and
 # arguments are four.
-CALLS = {
-    2: ("MapMemory", (("phys", "physical"), ("virt", "address"), ("size", "size"), ("flags", "flags"))),
-    3: ("Yield", ()),
-    5: ("ClaimInterrupt", (("interrupt", "number"), ("handler", "code"), ("argument", "word"))),
-    6: ("FreeInterrupt", (("interrupt", "number"),)),
-    10: ("IncreaseHeap", (("size", "size"),)),
-    11: ("DecreaseHeap", (("size", "size"),)),
-    12: ("UpdateMemoryFlags", (("pages", "span"), ("flags", "flags"))),
-    14: ("CreateServerWithAddress", (("", "identifier"),)),
-    15: ("ReceiveMessage", (("", "identifier"),)),
-    16: ("SendMessage", (("", "send"),)),
-    17: ("Connect", (("", "identifier"),)),
-    18: ("CreateThread", (("entry", "code"), ("sp", "address"), ("arguments", "arguments"))),
-    19: ("UnmapMemory", (("pages", "span"),)),
-    20: ("ReturnMemory", (("message", "number"), ("pages", "span"), ("offset", "number"), ("valid", "number"))),
-    22: ("TerminateProcess", (("exit", "word"),)),
-    24: ("TrySendMessage", (("", "send"),)),
-    25: ("TryConnect", (("", "identifier"),)),
-    26: ("ReturnScalar1", (("message", "number"), ("value", "word"))),
-    27: ("ReturnScalar2", (("message", "number"), ("values", "pair"))),
-    28: ("TryReceiveMessage", (("", "identifier"),)),
-    36: ("JoinThread", (("thread", "number"),)),
-    41: ("DestroyServer", (("", "identifier"),)),
-    42: ("GetThreadId", ()),
-    43: ("GetProcessId", ()),
-    44: ("ForwardMessage", (("message", "number"), ("cid", "number"))),
+WRITTEN = {
+    ("cid", "kind", "id", "words"): ("", "send"),
+    ("address", "size"): ("pages", "span"),
+    ("value1", "value2"): ("values", "pair"),
+    ("phys",): ("phys", "physical"),
+    ("virt",): ("virt", "address"),
+    ("size",): ("size", "size"),
+    ("bytes",): ("size", "size"),
+    ("flags",): ("flags", "flags"),
+    ("number",): ("interrupt", "number"),
+    ("handler",): ("handler", "code"),
+    ("arg",): ("argument", "word"),
+    ("sid",): ("", "identifier"),
+    ("entry",): ("entry", "code"),
+    ("sp",): ("sp", "address"),
+    ("args",): ("arguments", "arguments"),
+    ("token",): ("message", "number"),
+    ("offset",): ("offset", "number"),
+    ("valid",): ("valid", "number"),
+    ("exit",): ("exit", "word"),
+    ("value",): ("value", "word"),
+    ("tid",): ("thread", "number"),
+    ("cid",): ("cid", "number"),
 }
-NUMBERS = {name: number for number, (name, _) in CALLS.items()}
 
-MUTABLE_LEND, LEND, MOVE, SCALAR, BLOCKING_SCALAR = 1, 2, 3, 4, 5
-KINDS = {1: "MutableLend", 2: "Lend", 3: "Move", 4: "Scalar", 5: "BlockingScalar"}
+
+def labelled(fields):
+    """The labels of a call's fields, and what their words are. A field that isn't known is written by its own name."""
+    names, sizes = [name for name, _ in fields], dict(fields)
+    while names:
+        row = next((row for row in WRITTEN if tuple(names[: len(row)]) == row), None)
+        yield WRITTEN[row] if row else (names[0], "arguments" if sizes[names[0]] == 4 else "word")
+        del names[: len(row or names[:1])]
+
+
+# Each call: its name, and its words from a1 on as they are written.
+CALLS = {number: (name, tuple(labelled(fields))) for number, (name, fields) in numbers.CALLS.items()}
+
+MUTABLE_LEND, LEND, MOVE = numbers.KINDS["LendMut"], numbers.KINDS["Lend"], numbers.KINDS["Move"]
+SCALAR, BLOCKING_SCALAR = numbers.KINDS["Scalar"], numbers.KINDS["BlockingScalar"]
+KINDS = {number: {"LendMut": "MutableLend"}.get(name, name) for name, number in numbers.KINDS.items()}
 LENDS = (MUTABLE_LEND, LEND)
 WITH_PAGES = (MUTABLE_LEND, LEND, MOVE)
 ANSWERED = (MUTABLE_LEND, LEND, BLOCKING_SCALAR)
 
-OK, ERROR, MEMORY_RANGE, CONNECTION_ID, MESSAGE, THREAD_ID = 0, 1, 3, 7, 9, 10
-SCALAR1, SCALAR2, MEMORY_RETURNED, NEW_SERVER = 14, 15, 18, 19
+OK, ERROR, MEMORY_RANGE = numbers.REPLIES["ok"], numbers.REPLIES["error"], numbers.REPLIES["memory_range"]
+CONNECTION_ID, MESSAGE, THREAD_ID = numbers.REPLIES["connection_id"], numbers.REPLIES["message"], numbers.REPLIES["thread_id"]
+SCALAR1, SCALAR2 = numbers.REPLIES["scalar1"], numbers.REPLIES["scalar2"]
+MEMORY_RETURNED, NEW_SERVER = numbers.REPLIES["memory_returned"], numbers.REPLIES["new_server"]
 
-ERRORS = {
-    1: "BadAlignment",
-    2: "BadAddress",
-    3: "OutOfMemory",
-    4: "MemoryInUse",
-    5: "InterruptNotFound",
-    6: "InterruptInUse",
-    8: "ServerExists",
-    9: "ServerNotFound",
-    15: "ServerQueueFull",
-    16: "ThreadNotAvailable",
-    17: "UnhandledSyscall",
-    18: "InvalidSyscall",
-    19: "ShareViolation",
-    20: "InvalidThread",
-    23: "AccessDenied",
-    25: "DoubleFree",
-    27: "InvalidLimit",
-}
-SERVER_NOT_FOUND = 9
+ERRORS = numbers.ERRORS
+SERVER_NOT_FOUND = next(number for number, name in ERRORS.items() if name == "ServerNotFound")
 
 FAULTS = {
     0: "jump to a misaligned address",

@@ -251,14 +251,16 @@ class Machine:
         self.folder.mkdir(parents=True, exist_ok=True)
         self.xousim = xousim or os.environ.get("XOUSIM") or ROOT / "xousim"
 
-    def files(self, order):
-        """Image and events; those of an order are apart."""
-        end = f".{order}.events" if order else ".events"
-        return self.folder / f"{self.name}.img", self.folder / f"{self.name}{end}"
+    def files(self, test=None, order=None):
+        """Image and events; a test under an order has its own, which stay if it fails."""
+        if order is None:
+            return self.folder / f"{self.name}.img", self.folder / f"{self.name}.events"
+        stem = f"{self.name}.{re.sub(r'[^0-9A-Za-z_]+', '.', test).strip('.')}"
+        return self.folder / f"{stem}.img", self.folder / f"{stem}.{order}.events"
 
-    def play(self, words, order=None):
+    def play(self, words, test=None, order=None):
         """A run with these words, and its files."""
-        image, events = self.files(order)
+        image, events = self.files(test, order)
         make_image(image, self.servers, self.program, self.settings, words)
         if order:
             write_turns(events, turns_of_order(order), self.settings.steps)
@@ -270,11 +272,20 @@ class Machine:
             write_turns(events, [self.settings.turn], self.settings.steps)
         return Play(self.xousim, image, events, self.settings.steps, self.pid), (image, events)
 
+    def elf(self):
+        """The words by which a tool knows the program."""
+        return f"--elf {self.pid}={self.program}"
+
     def judge(self, end, files):
         image, events = files
-        elf = f"--elf {self.pid}={self.program}"
-        where = f"{ROOT}/tools/xous-where {image} {events} {elf}"
+        where = f"{ROOT}/tools/xous-where {image} {events} {self.settings.steps} {self.elf()}"
         return status_of(end, self.name, f"{image} or {events}", self.settings.steps, where)
+
+    def name_commands(self, files):
+        """Names the event file of a run that failed, and the two commands that look into that run."""
+        known = {"ELFS": self.elf(), "STEPS": str(self.settings.steps), "XOUSIM": str(self.xousim)}
+        sys.stdout.flush()
+        subprocess.run([KIT.parent / "test", "commands", *files], env={**os.environ, **known}, stdout=sys.stderr, check=False)
 
 
 def show(pieces):
@@ -289,6 +300,8 @@ def run(machine, words):
     status, sentence = machine.judge(play.end, files)
     if sentence:
         print(sentence, file=sys.stderr)
+    if status and is_test(machine.program):
+        machine.name_commands(files)
     return status
 
 
@@ -306,16 +319,27 @@ def tests_of(machine, words):
     return [line.removesuffix(": test") for line in listed.splitlines() if line.endswith(": test")]
 
 
+@dataclass
+class Failure:
+    """A test that failed in an order: what it wrote, a sentence on its end, and its files."""
+
+    order: int
+    console: bytes
+    sentence: str | None
+    files: tuple
+
+
 def run_test(machine, test, words, orders):
-    """The first order in which a test fails: its number, what it wrote and why; nothing if none does."""
+    """The first order in which a test fails; nothing if none does."""
     flags = [word for word in words if word.startswith("-") and word != "--exact"]
     for order in range(1, orders + 1):
-        play, files = machine.play(["--exact", test, *flags], order)
+        play, files = machine.play(["--exact", test, *flags], test, order)
         console = b"".join(play)
         status, sentence = machine.judge(play.end, files)
         if status:
-            return order, console, sentence or f"{machine.name}: replay it with {files[1]}"
-        files[1].unlink()
+            return Failure(order, console, sentence, files)
+        for file in files:
+            file.unlink()
     return None
 
 
@@ -325,11 +349,13 @@ def run_orders(machine, words, orders):
     for test in tests_of(machine, words):
         print(f"test {test} under {orders} orders ... ", end="", flush=True)
         found = run_test(machine, test, words, orders)
-        print(f"FAILED in order {found[0]}" if found else "ok", flush=True)
+        print(f"FAILED in order {found.order}" if found else "ok", flush=True)
         if found:
             failed += 1
-            show([found[1]])
-            print(found[2], file=sys.stderr)
+            show([found.console])
+            if found.sentence:
+                print(found.sentence, file=sys.stderr)
+            machine.name_commands(found.files)
     return PANICKED if failed else 0
 
 

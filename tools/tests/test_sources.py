@@ -1,0 +1,82 @@
+"""What tools are told by the sources: numbers of calls, the files of a call, and lines that stand twice."""
+
+import shutil
+from unittest import mock
+
+from sources import calls, doubles, places
+from xous import names, numbers
+
+from .frame import ROOT, Case
+
+# A list of calls by hand, a number in it as it stands, and what is said if that is another.
+LISTS = (
+    ("docs/calls.md", "JoinThread (36)", "JoinThread (37)", "JoinThread is 36, not 37"),
+    ("docs/calls.md", "JoinThread (36)", "JoinThread", "JoinThread (36) is missing"),
+    ("docs/transcript.md", "`24` | JoinThread", "`25` | JoinThread", "JoinThread is 36, not 37"),
+    ("docs/definitions.md", "JoinThread (36)", "JoinThread (37)", "JoinThread is 36, not 37"),
+    ("crates/case_files/src/acts.rt", '"JoinThread" => Some(36)', '"JoinThread" => Some(37)', "JoinThread is 36, not 37"),
+    ("crates/syscall_codec/src/numbers.rt", "JOIN_THREAD: u32 = 36", "JOIN_THREAD: u32 = 37", "JOIN_THREAD is 36, not 37"),
+    ("examples/kit/xous.h", "XOUS_JOIN_THREAD = 36", "XOUS_JOIN_THREAD = 37", "JOIN_THREAD is 36, not 37"),
+    ("examples/kit/xous.h", "XOUS_DOUBLE_FREE = 25", "XOUS_DOUBLE_FREE = 26", "DOUBLE_FREE is 25, not 26"),
+    ("examples/kit/xous.h", "XOUS_NEW_SERVER = 19", "XOUS_NEW_SERVER = 20", "NEW_SERVER is 19, not 20"),
+    ("examples/kit/rust/xous/src/call.rs", "CONNECT: u32 = 17", "CONNECT: u32 = 18", "CONNECT is 17, not 18"),
+)
+
+
+class Calls(Case):
+    def test_numbers_of_the_tools(self):
+        self.assertEqual(calls.MADE.read_text(), calls.made(), "make tools/xous/numbers.py by tools/make-lists")
+        self.assertEqual(numbers.CALLS[16], ("SendMessage", (("cid", 1), ("kind", 1), ("id", 1), ("words", 4))))
+        self.assertEqual((numbers.ERRORS[25], numbers.REPLIES["new_server"], numbers.KINDS["BlockingScalar"]), ("DoubleFree", 19, 5))
+
+    def test_a_call_that_names_has_no_words_for(self):
+        self.assertEqual(list(names.labelled((("token", 1), ("new", 1), ("many", 4)))), [("message", "number"), ("new", "word"), ("many", "arguments")])
+
+    def test_lists_by_hand(self):
+        self.assertEqual(list(calls.wrong_numbers()), [])
+        for path in dict.fromkeys(path for path, *_ in LISTS):
+            (self.folder / path).parent.mkdir(parents=True, exist_ok=True)
+            shutil.copy(ROOT / path, self.folder / path)
+        with mock.patch.object(calls, "ROOT", self.folder):
+            for path, old, new, said in LISTS:
+                with self.subTest(path, said=said):
+                    text = (self.folder / path).read_text()
+                    self.assertIn(old, text)
+                    (self.folder / path).write_text(text.replace(old, new))
+                    self.assertEqual(list(calls.wrong_numbers()), [f"{path}: {said}"])
+                    (self.folder / path).write_text(text)
+
+    def test_files_of_a_call(self):
+        rows = list(places.rows(["xk_base", "syscall_codec", "trace_text"]))
+        self.assertIn("| `xk_base` | specs/Calls/CallNumbers, specs/Calls/CallWords |", rows)
+        self.assertTrue(any(row.startswith("| `syscall_codec` | src/calls, src/encode, ") for row in rows))
+        self.assertFalse(any("trace_text" in row for row in rows))
+
+
+class Doubles(Case):
+    def write(self, name, lines):
+        path = self.folder / "crates" / name
+        path.parent.mkdir(parents=True, exist_ok=True)
+        path.write_text("\n".join(lines))
+
+    def found(self):
+        return [(line.file, line.number, other.file, other.number) for line, other in doubles.doubled(self.folder)]
+
+    def test_runs(self):
+        run = [f"let x{at} = {at};" for at in range(10)]
+        self.write("one/src/lib.rt", ["// one", *run])
+        self.assertEqual(self.found(), [])
+        self.write("two/src/lib.rt", run[:7])
+        self.assertEqual(self.found(), [], "seven lines")
+        self.write("two/src/lib.rt", ["fn f() {", *run[:4], "", "    // a comment", *(f"  {line}" for line in run[4:9]), "}"])
+        places_of_two = [2, 3, 4, 5, 8, 9, 10, 11, 12]
+        wanted = [("crates/two/src/lib.rt", place, "crates/one/src/lib.rt", 2 + at) for at, place in enumerate(places_of_two)]
+        self.assertEqual(self.found(), wanted)
+        self.assertEqual(list(doubles.runs(doubles.doubled(self.folder))), ["crates/two/src/lib.rt:2 is as crates/one/src/lib.rt:2"])
+
+    def test_one_line_over_and_over(self):
+        """A run isn't its own double."""
+        self.write("one/specs/Lib.antt", ["x"] * 12)
+        self.assertEqual(self.found(), [])
+        self.write("one/specs/Lib.antt", ["x"] * 16)
+        self.assertEqual(len(self.found()), 8)
