@@ -184,12 +184,12 @@ def start(name: str, module: str) -> NoReturn:
     finish(run(name, lambda words: importlib.import_module(f"xous.commands.{module}").main(words), sys.argv[1:]))
 
 
-def start_own(name: str, text: str, main: Callable[[list[str]], int], example: str = "") -> NoReturn:
+def start_own(name: str, text: str, main: Callable[[list[str]], int], example: str = "", statuses: str = OWN_STATUSES) -> NoReturn:
     """Runs a tool that is one file, whose help is its own text. It takes --help and --version alone."""
 
     def guarded(words: list[str]) -> int:
         if words == ["--help"]:
-            print("\n\n".join((text.strip(), OWN_STATUSES, f"example:\n  {example or f'tools/{name}'}")))
+            print("\n\n".join((text.strip(), statuses, f"example:\n  {example or f'tools/{name}'}")))
         elif words == ["--version"]:
             print(f"{name} {version()}")
         else:
