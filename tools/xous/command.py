@@ -201,7 +201,7 @@ def start_own(name: str, text: str, main: Callable[[list[str]], int], example: s
 
 def refuse_words(name: str, words: list[str]) -> NoReturn:
     """Ends a tool that doesn't take these words."""
-    raise Refusal(f"{' '.join(words)}: not the words of this tool; see tools/{name} --help", USAGE)
+    raise Refusal(f"{' '.join(words) or 'no word'}: not the words of this tool; see tools/{name} --help", USAGE)
 
 
 def finish(status: int) -> NoReturn:
