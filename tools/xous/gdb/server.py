@@ -127,7 +127,7 @@ class Server:
             return self.go(self.history.step_forward)
         if action[0] == "r":
             start, end = (number(word) for word in action[1:].split(","))
-            who = target.read_thread(thread) if thread else self.general
+            who = self.thread(thread) if thread else self.general
             return self.go(lambda: self.history.step_over(who, start, end))
         return None
 
@@ -137,8 +137,13 @@ class Server:
 
     # What is there.
 
+    def thread(self, text):
+        """The pid and tid of a thread id. LLDB leaves out the pid, and means its one process."""
+        pid, tid = target.read_thread(text)
+        return (self.general[0] if pid == ANY and tid not in (ALL, ANY) else pid), tid
+
     def choose(self, text):
-        pid, tid = target.read_thread(text[1:])
+        pid, tid = self.thread(text[1:])
         if text[0] == "g" and pid not in (ALL, ANY):
             self.general = pid, tid if tid not in (ALL, ANY) else self.some_tid(pid)
         return "OK"
@@ -150,7 +155,11 @@ class Server:
         return f"QC{target.thread_text(self.general)}"
 
     def is_alive(self, text):
-        return "OK" if target.read_thread(text) in target.listed(self.history.state()) else "E01"
+        return "OK" if self.thread(text) in target.listed(self.history.state()) else "E01"
+
+    def machine(self, _):
+        """What LLDB asks for of the host, and of its process, if it has no program."""
+        return f"pid:{self.general[0]:x};triple:{target.TRIPLE.encode().hex()};ptrsize:4;endian:little;"
 
     def first_threads(self, _):
         return "m" + ",".join(map(target.thread_text, target.listed(self.history.state(), self.first)))
@@ -159,7 +168,7 @@ class Server:
         return "l"
 
     def extra(self, text):
-        return target.thread_note(self.history.state(), target.read_thread(text)).encode().hex()
+        return target.thread_note(self.history.state(), self.thread(text)).encode().hex()
 
     def read_registers(self, _):
         return target.registers(self.history.state(), self.general)
@@ -272,6 +281,8 @@ HANDLERS = {
     "H": Server.choose,
     "?": Server.last_status,
     "qC": Server.current,
+    "qHostInfo": Server.machine,
+    "qProcessInfo": lambda server, text: server.machine(text) if not text else None,  # not qProcessInfoPID
     "qfThreadInfo": Server.first_threads,
     "qsThreadInfo": Server.more_threads,
     "qThreadExtraInfo,": Server.extra,
