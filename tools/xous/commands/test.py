@@ -70,7 +70,7 @@ def chosen(names: list[str], left_out: tuple[str, ...]) -> list[unittest.TestCas
 
 def name_of(test: unittest.TestCase) -> str:
     """The name of a test, or of the class whose tests were all skipped at once."""
-    return test.id().removeprefix("setUpClass (").removesuffix(")").removeprefix("tests.")
+    return test.id().removeprefix("setUpClass (").removesuffix(")").removeprefix("tests.").removeprefix("__main__.")
 
 
 def skipped_lines(skipped: list[tuple[unittest.TestCase, str]]) -> Iterator[str]:
