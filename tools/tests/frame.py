@@ -25,6 +25,7 @@ PACKAGES = {
     "clang": "clang",
     "ld.lld": "lld",
     "lldb": "lldb",
+    "pdftotext": "poppler-utils",
     GDB: "gdb-multiarch",
     "llvm-mc": "llvm",
     "bash": "bash",
@@ -40,6 +41,10 @@ PACKAGES = {
     "mypy": "mypy",
     "pylint": "pylint",
 }
+
+
+# Names that a command may have elsewhere.
+OTHER_NAMES = {"chromium": ("chromium", "chromium-browser", "google-chrome")}
 
 
 @dataclasses.dataclass
@@ -69,7 +74,7 @@ def need_searcher() -> str:
 def is_there(name: str) -> bool:
     if name in ("elftools", "hypothesis"):
         return importlib.util.find_spec(name) is not None
-    return shutil.which(name) is not None
+    return any(shutil.which(each) for each in OTHER_NAMES.get(name, (name,)))
 
 
 def need(*names: str) -> None:

@@ -115,7 +115,7 @@ def open_streams() -> bool:
     if sys.stdout is None:
         sys.stdout = open(1, "w", encoding="utf-8")
     sys.stderr = error_stream("utf-8" if sys.stderr is None else sys.stderr.encoding)
-    sys.stdout.reconfigure(errors="backslashreplace")  # type: ignore[union-attr]
+    sys.stdout.reconfigure(errors="backslashreplace")  # type: ignore[attr-defined,union-attr]
     return 1 not in missing
 
 
