@@ -31,6 +31,7 @@ class Lldb(Case):
 
     def lldb(self, *commands):
         """What LLDB writes for each of these commands."""
+        commands = ("settings set plugin.process.gdb-remote.packet-timeout 300", *commands)
         words = [word for command in commands for word in ("-o", command)]
         ran = subprocess.run(["lldb", "--no-lldbinit", "--batch", *words], stdin=subprocess.DEVNULL, capture_output=True, text=True, check=False, timeout=300)
         parts = ran.stdout.split("(lldb) ")
@@ -45,19 +46,21 @@ class Lldb(Case):
             told, whole = self.lldb(
                 f"target create --arch riscv32 {program}", f"gdb-remote {port}", f"breakpoint set --file lost.c --line {STORE}",
                 "continue", "thread backtrace", "frame variable amount", f"memory read --format x --size 4 --count 1 {total:#x}",
-                "process plugin packet monitor step", "breakpoint delete --force", "kill",
+                "breakpoint delete --force", "process continue",
             )  # fmt: skip
         self.assertIn(f"lost.c:{STORE}", told["continue"], whole)
         self.assertIn("stop reason = breakpoint 1.1", told["continue"], whole)
         self.assertRegex(told["thread backtrace"], rf"frame #0: 0x[0-9a-f]+ lost\.elf`add\S* at lost\.c:{STORE}")
         self.assertIn(f"{total:#010x}: 0x00000000", "".join(told.values()), whole)
+        self.assertIn("stop reason = signal SIGTERM", told["process continue"], whole)
 
     def test_without_a_program(self):
         """The machine is known all the same: registers, threads and instructions of the process that --pid names."""
         with self.port(FAULT / "image", FAULT / "events", "--pid", "3") as port:
             told, whole = self.lldb(
-                f"gdb-remote {port}", "register read pc", "continue", "thread list", "register read pc", "disassemble --pc --count 1", "kill",
+                f"gdb-remote {port}", "register read pc", "continue", "thread list", "thread step-inst",
             )  # fmt: skip
         self.assertIn("pc = 0x00010000", whole)
         self.assertIn("stop reason = signal SIGSEGV", told["continue"], whole)
         self.assertRegex(told["thread list"], r"tid = 0x0003, 0x00010030", whole)
+        self.assertIn("exited with status = 0", told["thread step-inst"], whole)
