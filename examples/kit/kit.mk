@@ -16,18 +16,23 @@ GCC = riscv64-unknown-elf-gcc
 AR = riscv64-unknown-elf-ar
 XOUS_IMAGE = $(KIT)/../../tools/xous-image
 
+# Ends with a sentence where a command isn't there: the command, and what brings it.
+xous_needs = $(if $(shell command -v $(1) 2>/dev/null),,$(error $(1) is missing: apt-get install $(2)))
+GCC_PACKAGE = gcc-riscv64-unknown-elf
+xous_needs_gcc = $(call xous_needs,$(GCC),$(GCC_PACKAGE))
+
 # Of the compilers, clang is told the target and takes lld; gcc makes no call of memset of the loop in memset.
 is_clang = $(findstring clang,$(firstword $(CC)))
-COMPILER = $(CC) $(if $(is_clang),--target=riscv32-unknown-elf)
+COMPILER = $(call xous_needs,$(firstword $(CC)),$(if $(is_clang),clang lld,$(GCC_PACKAGE), or set CC))$(CC) $(if $(is_clang),--target=riscv32-unknown-elf)
 ARCH = -march=rv32ima -mabi=ilp32
 CFLAGS = $(ARCH) -Os -g -std=c11 -Wall -Wextra -Werror -Wstrict-aliasing=1 $(LIBC_CFLAGS) \
          -fno-pic -msmall-data-limit=0 -mno-relax -fno-asynchronous-unwind-tables \
          $(if $(is_clang),,-fno-tree-loop-distribute-patterns)
-LDFLAGS = -nostdlib -static -T $(KIT)/link.ld -Wl,--no-relax -Wl,--build-id=none $(if $(is_clang),-fuse-ld=lld)
+LDFLAGS = -nostdlib -static -T $(KIT)/link.ld -Wl,--no-relax -Wl,--build-id=none $(if $(is_clang),$(call xous_needs,ld.lld,lld)-fuse-ld=lld)
 COMPILE = $(COMPILER) $(CFLAGS) -MMD -MP -I$(KIT) -c -o $@ $<
 
 # libgcc has what the machine has no instruction for, such as the division of 64 bits. It comes with gcc.
-LIBGCC = $(shell $(GCC) $(ARCH) -print-libgcc-file-name)
+LIBGCC = $(xous_needs_gcc)$(shell $(GCC) $(ARCH) -print-libgcc-file-name)
 
 ifeq ($(LIBC),picolibc)
 # Debian's package has no library for rv32ima. That for rv32im has the same calls, and no atomics.
@@ -64,7 +69,7 @@ out/kit/%.o: $(KIT)/%.c $(MAKEFILE_LIST)
 
 out/kit/libkit.a: $(KIT_OBJECTS)
 	rm -f $@
-	$(AR) rcs $@ $^
+	$(xous_needs_gcc)$(AR) rcs $@ $^
 
 -include $(wildcard out/*.d out/*/*.d out/*/*/*.d)
 

@@ -22,6 +22,11 @@ PACKAGES = {
     "make": "make",
     COMPILER: "gcc-riscv64-unknown-elf",
     "riscv64-unknown-elf-addr2line": "binutils-riscv64-unknown-elf",
+    "riscv64-unknown-elf-objcopy": "binutils-riscv64-unknown-elf",
+    "clang": "clang",
+    "ld.lld": "lld",
+    "lldb": "lldb",
+    "pdftotext": "poppler-utils",
     GDB: "gdb-multiarch",
     "llvm-mc": "llvm",
     "bash": "bash",
@@ -39,6 +44,10 @@ PACKAGES = {
     "mypy": "mypy",
     "pylint": "pylint",
 }
+
+
+# Names that a command may have elsewhere.
+OTHER_NAMES = {"chromium": ("chromium", "chromium-browser", "google-chrome")}
 
 
 @dataclasses.dataclass
@@ -68,7 +77,7 @@ def need_searcher() -> str:
 def is_there(name: str) -> bool:
     if name in ("elftools", "hypothesis", "yaml"):
         return importlib.util.find_spec(name) is not None
-    return shutil.which(name) is not None
+    return any(shutil.which(each) for each in OTHER_NAMES.get(name, (name,)))
 
 
 def need(*names: str) -> None:

@@ -16,7 +16,7 @@ from xous.charts import chart, draw, page
 from xous.errors import Refusal
 from xous.transcripts import summary, view
 
-from .frame import EXAMPLES, ROOT, TOOLS, Case, need
+from .frame import EXAMPLES, OTHER_NAMES, ROOT, TOOLS, Case, need
 
 PICTURE = ROOT / "docs" / "lend.svg"
 VIEW = TOOLS / "xous-view"
@@ -279,7 +279,7 @@ document.title = facts.join("; ");
 
 
 def browser():
-    return next((path for name in ("chromium", "chromium-browser", "google-chrome") if (path := shutil.which(name))), None)
+    return next(path for name in OTHER_NAMES["chromium"] if (path := shutil.which(name)))
 
 
 def opened(program, path, *more):
@@ -303,7 +303,6 @@ def checks_of_page(folder):
     for fact in facts:
         yield fact.startswith("good "), f"the page: {fact}"
     yield from checks_of_dark(program, path, made)
-    yield from checks_of_print(program, folder)
 
 
 DARK = """<script>
@@ -319,19 +318,29 @@ def checks_of_dark(program, path, made):
 
 
 def printed(program, path):
-    """How many pages the page has on paper, and their text, where pdftotext is there."""
+    """The texts of the pages that it has on paper."""
     target = path.with_suffix(".pdf")
     with tempfile.TemporaryDirectory() as profile:
         command = [program, "--headless", "--no-sandbox", "--disable-gpu", "--disable-dev-shm-usage", f"--user-data-dir={profile}"]
         subprocess.run([*command, f"--print-to-pdf={target}", path.as_uri()], capture_output=True, check=False, timeout=600)
-    return len(re.findall(rb"/Type\s*/Page\b", target.read_bytes()))
+    told = subprocess.run(["pdftotext", "-layout", target, "-"], capture_output=True, text=True, check=True).stdout
+    return told.split("\f")[:-1]
 
 
 def checks_of_print(program, folder):
     """On paper a short chart has one page, and a wide and long one as many as it needs, without an empty one."""
-    short = pathlib.Path(folder, "short.html")
-    short.write_text(page.html(example("lend/expected"), names.Names(), "lend"))
-    yield printed(program, short) == 1, "a short chart has one page"
+    path = pathlib.Path(folder, "printed.html")
+    path.write_text(page.html(example("lend/expected"), names.Names(), "lend"))
+    yield len(printed(program, path)) == 1, "a short chart has one page"
+    lines = [f"{at} {at % 12 + 2}.2 {what} {words(*given)}" for at in range(1, 601) for what, given in (("call", (42, at)), ("reply", (10, 2)))]
+    named = names.Names({pid: f"process{pid}" for pid in range(2, 14)})
+    path.write_text(page.html(drawn(lines, named=named), named, "many"))
+    pages = printed(program, path)
+    yield len(pages) > 1 and all(text.strip() for text in pages), f"no page of a long chart is empty: {len(pages)} pages"
+    told = "\n".join(pages)
+    yield all(re.search(rf"\bprocess{pid}\b", told) for pid in range(2, 14)), "each lane of a wide chart is on paper"
+    missing = [at for at in range(1, 601) if not re.search(rf"\b{at}\b", told)]
+    yield not missing, f"each row of a long chart is on paper, but for {missing[:9]}"
 
 
 class Charts(Case):
@@ -356,3 +365,7 @@ class Charts(Case):
     def test_page(self):
         need("chromium")
         self.hold(checks_of_page(self.folder))
+
+    def test_print(self):
+        need("chromium", "pdftotext")
+        self.hold(checks_of_print(browser(), self.folder))

@@ -115,6 +115,7 @@ class Streams(Case):
     """Each tool by itself, with streams that are closed, full or gone."""
 
     def shell(self, line, **how):
+        how.setdefault("env", {name: value for name, value in os.environ.items() if not name.startswith("PYTHON")})
         words = {"view": TOOLS / "xous-view", "image": TOOLS / "xous-image", "state": TOOLS / "xous-state", "lend": LEND, "folder": self.folder}
         text = line.format(**words)
         ran = subprocess.run(["/bin/bash", "-c", text], capture_output=True, text=True, check=False, timeout=600, **how)
@@ -143,6 +144,8 @@ class Streams(Case):
     def test_standard_error_that_is_closed_or_full(self):
         self.assertEqual(self.shell("{view} {folder}/missing 2>&-"), (1, ""))
         self.assertEqual(self.shell("{view} {folder}/missing 2>/dev/full"), (1, ""))
+        self.assertEqual(self.shell("echo odd | {view} 2>/dev/full >/dev/null"), (1, ""))
+        self.assertEqual(self.shell("{view} {folder}/missing 2>&1 | true; exit ${{PIPESTATUS[0]}}"), (1, ""))
 
     def test_input_that_is_closed(self):
         self.assertEqual(self.shell("{view} <&- >/dev/null"), (0, ""))

@@ -376,6 +376,15 @@ def busy_checks(bench):
     yield re.search(r"hit Breakpoint 2", answers[10]), "busy: a breakpoint some thousand steps on"
 
 
+def passing_checks(bench):
+    """Ends of processes can be passed over, as examples/README.md says: then a run goes on to its end."""
+    folder = EXAMPLES / "race"
+    answers = bench.gdb(folder / "image", folder / "lose.events", [], "handle SIGTERM nostop noprint", "continue", "monitor step")
+    yield "SIGTERM" not in answers[1], f"ends of processes: gdb goes over them: {answers[1]}"
+    step = re.search(r"step (\d+) of (\d+)", answers[2])
+    yield step and step[1] == step[2], f"ends of processes: then the end of the run: {answers[2]}"
+
+
 def word_checks(bench):
     """What xous-gdb says where nothing is played."""
     words = [TOOLS / "xous-gdb", bench.events("empty", ""), EXAMPLES / "race" / "win.events"]
@@ -431,6 +440,9 @@ class Gdb(Case):
 
     def test_busy(self):
         self.hold(busy_checks(self.bench))
+
+    def test_ends_that_are_passed(self):
+        self.hold(passing_checks(self.bench))
 
     def test_words(self):
         self.hold(word_checks(self.bench))

@@ -11,6 +11,7 @@ from xml.etree import ElementTree
 from xous import names
 from xous.charts import chart, draw, page, trace
 from xous.errors import Refusal
+from xous.images import layout
 from xous.images.named import read_image
 from xous.machine import MOST_STEPS
 from xous.runs import events
@@ -18,6 +19,7 @@ from xous.runs.acting import stretches_of
 from xous.runs.idle import IdleEvents
 from xous.transcripts import decode, summary, view
 
+from .builders import process
 from .frame import EXAMPLES, TOOLS, Case, need_program
 
 LEND, RACE = EXAMPLES / "lend", EXAMPLES / "race"
@@ -87,6 +89,22 @@ class Idle(Case):
         ran = self.tool("xous-where", "--events", LEND / "image", made, "--json")
         told = json.loads(ran.stdout)
         self.assertEqual((told["events"], told["bad_line"], [row["line"] for row in told["idle"]]), (3, None, [1, 3]))
+
+
+class Limits(Case):
+    def test_steps_and_slots(self):
+        """xous-where takes them as xousim does: the image of one process that needs slots, and a run that is cut."""
+        need_program()
+        ran = self.tool("xous-where", RACE / "image", RACE / "win.events", "30", "4")
+        self.assertEqual((ran.returncode, ran.stdout.splitlines()[0], ran.stderr), (0, "step limit 30", ""))
+        made, nine = self.folder / "image", self.folder / "events"
+        nine.write_text("tick 9\n")
+        data = layout.Image(layout.RAM_START, 0x1_7000, [process()], 2, None)
+        made.write_bytes(layout.write(data))
+        ran = self.tool("xous-where", made, nine)
+        self.assertEqual((ran.returncode, ran.stderr), (1, "xous-where: image fault RamTooSmall at 0\n"), ran.stdout)
+        ran = self.tool("xous-where", made, nine, "5", "9")
+        self.assertEqual((ran.returncode, ran.stdout.splitlines()[0]), (0, "step limit 5"), ran.stderr)
 
 
 class Acting(Case):

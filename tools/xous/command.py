@@ -9,6 +9,7 @@ import argparse
 import contextlib
 import errno
 import importlib
+import io
 import os
 import pathlib
 import signal
@@ -85,6 +86,21 @@ def say(name: str, text: object) -> None:
         print(f"{name}: {text}", file=sys.stderr, flush=True)
 
 
+class ErrorStream(io.FileIO):
+    """Standard error. What it doesn't take, as its disk is full or its reader has gone, is lost: no status hangs on it."""
+
+    def write(self, data):
+        try:
+            return super().write(data)
+        except OSError:
+            return len(data)
+
+
+def error_stream(encoding: str) -> io.TextIOWrapper:
+    lossy = io.BufferedWriter(ErrorStream(2, "w", closefd=False))
+    return io.TextIOWrapper(lossy, encoding, "backslashreplace", line_buffering=True)
+
+
 def open_streams() -> bool:
     """Makes what is closed of the three streams lead nowhere, so that no file takes its number. Whether output is open."""
     missing = []
@@ -98,10 +114,8 @@ def open_streams() -> bool:
         sys.stdin = open(0, encoding="utf-8", errors="surrogateescape")
     if sys.stdout is None:
         sys.stdout = open(1, "w", encoding="utf-8")
-    if sys.stderr is None:
-        sys.stderr = open(2, "w", encoding="utf-8")
-    for stream in (sys.stdout, sys.stderr):
-        stream.reconfigure(errors="backslashreplace")  # type: ignore[attr-defined,union-attr]
+    sys.stderr = error_stream("utf-8" if sys.stderr is None else sys.stderr.encoding)
+    sys.stdout.reconfigure(errors="backslashreplace")  # type: ignore[attr-defined,union-attr]
     return 1 not in missing
 
 
@@ -170,12 +184,12 @@ def start(name: str, module: str) -> NoReturn:
     finish(run(name, lambda words: importlib.import_module(f"xous.commands.{module}").main(words), sys.argv[1:]))
 
 
-def start_own(name: str, text: str, main: Callable[[list[str]], int]) -> NoReturn:
+def start_own(name: str, text: str, main: Callable[[list[str]], int], example: str = "", statuses: str = OWN_STATUSES) -> NoReturn:
     """Runs a tool that is one file, whose help is its own text. It takes --help and --version alone."""
 
     def guarded(words: list[str]) -> int:
         if words == ["--help"]:
-            print(text.strip() + "\n\n" + OWN_STATUSES)
+            print("\n\n".join((text.strip(), statuses, f"example:\n  {example or f'tools/{name}'}")))
         elif words == ["--version"]:
             print(f"{name} {version()}")
         else:
@@ -183,6 +197,11 @@ def start_own(name: str, text: str, main: Callable[[list[str]], int]) -> NoRetur
         return DONE
 
     finish(run(name, guarded, sys.argv[1:]))
+
+
+def refuse_words(name: str, words: list[str]) -> NoReturn:
+    """Ends a tool that doesn't take these words."""
+    raise Refusal(f"{' '.join(words) or 'no word'}: not the words of this tool; see tools/{name} --help", USAGE)
 
 
 def finish(status: int) -> NoReturn:

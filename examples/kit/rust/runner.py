@@ -8,7 +8,6 @@ it comes, and the exit word of the program is the status: 101 of a panic. Image 
 XOUSIM names the program that plays; with XOUS_ORDERS=N each test is played under N orders of short turns.
 """
 
-import contextlib
 import json
 import os
 import pathlib
@@ -22,6 +21,13 @@ from dataclasses import dataclass, field
 
 KIT = pathlib.Path(__file__).resolve().parent
 ROOT = KIT.parents[2]
+sys.dont_write_bytecode = True
+sys.path.insert(0, str(ROOT / "tools"))
+
+from xous.command import start_own  # noqa: E402: behind the path
+from xous.errors import Refusal  # noqa: E402
+from xous.runs.program import find_program  # noqa: E402
+
 OUT = pathlib.Path(os.environ.get("XOUS_RUST_OUT") or ROOT / "examples" / "out" / "rust")  # set by the kit's cargo
 KIT_SERVERS = ("log", "ticktimer", "systime", "names")
 FIRST_PID = 2
@@ -31,11 +37,8 @@ FAILED = 1
 SHORTEST, LONGEST = 7, 2000  # turns of an order; in shorter ones locks may never be taken (docs/std.md)
 AFTER_END, SECONDS_AFTER_END = 2_000_000, 10  # steps and time that the others have after the program's end
 MOST_STEPS = 4_000_000_000
+STATUSES = "statuses: the program's exit word; 1 if the program ends otherwise, with a sentence; 2 if the words make no sense"
 CAUSES = {2: "a word that is no instruction", 12: "a fetch", 13: "a load", 15: "a store"}
-
-
-class Refusal(Exception):
-    """Why nothing is played, as one line."""
 
 
 # What a package says of its image.
@@ -65,6 +68,8 @@ def read_manifest(folder):
         return tomllib.loads((folder / "Cargo.toml").read_text())
     except OSError:
         return {}
+    except ValueError as error:
+        raise Refusal(f"{folder}/Cargo.toml: {error}") from None
 
 
 def metadata(package, workspace):
@@ -78,6 +83,8 @@ def metadata(package, workspace):
 def settings_of(package, workspace):
     """The settings, and the folder of the manifest that has them."""
     folder, found = metadata(package, workspace)
+    if not isinstance(found, dict):
+        raise Refusal(f"{folder}/Cargo.toml: metadata.xous is no table; write [package.metadata.xous]")
     known = {name: type(value) for name, value in vars(Settings()).items()}
     for name, value in found.items():
         if name not in known:
@@ -129,7 +136,7 @@ def make_image(image, servers, program, settings, words):
     made = subprocess.run(command, stdout=subprocess.DEVNULL, stderr=subprocess.PIPE, text=True, check=False)
     if made.returncode:
         said = made.stderr.strip()
-        how = '; set ram = "64M" in [package.metadata.xous]' if "RAM" in said else ""
+        how = '; set ram = "64M" in [package.metadata.xous]' if "RAM" in said and "no RAM of" not in said else ""
         raise Refusal(said + how)
 
 
@@ -158,6 +165,7 @@ class End:
     word: int | None = None
     fault: str | None = None
     step: int = 0
+    is_told: bool = False  # whether the transcript has a death of the program or its own end
     said: str = ""  # by the program that plays
 
 
@@ -165,15 +173,26 @@ class Play:
     """A run, as the pieces of its console. After the last one, `end` says how the program ended."""
 
     def __init__(self, xousim, image, events, steps, pid):
-        self.pid, self.steps, self.end = str(pid), steps, None
+        self.pid, self.end = str(pid), End()
         command = [xousim, "trace", image, events, str(steps)]
         try:
             self.run = subprocess.Popen(command, stdout=subprocess.PIPE, stderr=subprocess.PIPE)
         except OSError as error:
-            raise Refusal(f"{xousim}: {error.strerror}") from None
+            raise Refusal(f"{xousim}: {error.strerror}; XOUSIM names the program that plays") from None
 
     def __iter__(self):
-        found, line, gone, timer = End(), bytearray(), None, threading.Timer(SECONDS_AFTER_END, self.run.kill)
+        timer = threading.Timer(SECONDS_AFTER_END, self.run.kill)
+        try:
+            yield from self.pieces(timer)
+        finally:
+            timer.cancel()
+            self.run.kill()
+            self.run.stdout.close()
+            self.end.said = self.run.stderr.read().decode(errors="replace").strip()
+            self.run.wait()
+
+    def pieces(self, timer):
+        found, line, gone = self.end, bytearray(), None
         for record in self.run.stdout:
             if record[-9:-4] == b" byte":
                 line.append(int(record[-3:], 16))
@@ -189,11 +208,6 @@ class Play:
             if self.note(found, step, [word.decode() for word in words]):
                 gone = step
                 timer.start()
-        timer.cancel()
-        self.run.kill()
-        found.said = self.run.stderr.read().decode(errors="replace").strip()
-        self.run.wait()
-        self.end = found
 
     def note(self, found, step, words):
         """Whether the record is the program's death; what it says of the end is noted."""
@@ -203,10 +217,10 @@ class Play:
             case [_, who, "fault", cause, value] if who.startswith(f"{self.pid}."):
                 found.fault = f"thread {who} faults by {CAUSES.get(int(cause), f'cause {cause}')} at {value.strip()}"
             case [_, pid, "gone\n"] if pid == self.pid:
-                found.step = step
+                found.step, found.is_told = step, True
                 return True
             case ["end", last, *_]:
-                found.step = found.step or int(last)
+                found.step, found.is_told = found.step or int(last), True
         return False
 
 
@@ -229,6 +243,8 @@ def status_of(end, name, files, steps, where):
         return end.word & 0xFF or (FAILED if end.word else 0), None
     if end.said and not end.said.startswith("step limit"):
         return FAILED, f"{name}: {end.said}: xousim refuses {files}"
+    if not end.is_told:
+        return FAILED, f"{name}: the transcript has no end; XOUSIM has to name xousim"
     if end.said or end.step >= steps:
         return FAILED, f"{name}: met the limit of {steps} steps (steps in [package.metadata.xous]). Where: {where}"
     return FAILED, f"{name}: waits for good; no thread is ready after step {end.step}. For what: {where}"
@@ -240,16 +256,18 @@ def status_of(end, name, files, steps, where):
 class Machine:
     """What is the same in all runs of a program."""
 
-    def __init__(self, program, xousim=None):
+    def __init__(self, program):
         package = pathlib.Path(os.environ.get("CARGO_MANIFEST_DIR") or ".").resolve()
         workspace = workspace_of(package)
         self.program, self.name = program, pathlib.Path(program).name
+        if not pathlib.Path(program).is_file():
+            raise Refusal(f"{program}: no such program; build it by {KIT / 'cargo'} build")
         self.manifest, self.settings = settings_of(package, workspace)
         self.servers = paths_of_servers(self.manifest, workspace, self.settings.servers)
         self.pid = FIRST_PID + len(self.servers)
         self.folder = pathlib.Path(os.environ.get("CARGO_TARGET_DIR") or workspace / "target", "xous")
         self.folder.mkdir(parents=True, exist_ok=True)
-        self.xousim = xousim or os.environ.get("XOUSIM") or ROOT / "xousim"
+        self.xousim = find_program()
 
     def files(self, test=None, order=None):
         """Image and events; a test under an order has its own, which stay if it fails."""
@@ -361,22 +379,15 @@ def run_orders(machine, words, orders):
 
 def main(words):
     if not words:
-        print(__doc__.strip(), file=sys.stderr)
-        return 2
+        raise Refusal(f"no program to play; see {KIT / 'runner.py'} --help", 2)
     orders = os.environ.get("XOUS_ORDERS") or "0"
-    try:
-        if not orders.isdigit():
-            raise Refusal(f"XOUS_ORDERS={orders} is no number")
-        machine = Machine(words[0])
-        if int(orders) and is_test(words[0]) and "--list" not in words:
-            return run_orders(machine, words[1:], int(orders))
-        return run(machine, words[1:])
-    except Refusal as refusal:
-        print(f"xous runner: {refusal}", file=sys.stderr)
-        return FAILED
+    if not (orders.isascii() and orders.isdigit()):
+        raise Refusal(f"XOUS_ORDERS={orders} is no number")
+    machine = Machine(words[0])
+    if int(orders) and is_test(words[0]) and "--list" not in words:
+        return run_orders(machine, words[1:], int(orders))
+    return run(machine, words[1:])
 
 
 if __name__ == "__main__":
-    with contextlib.suppress(KeyboardInterrupt):
-        sys.exit(main(sys.argv[1:]))
-    sys.exit(130)
+    start_own("xous runner", __doc__, main, f"{KIT / 'cargo'} run", STATUSES)

@@ -121,7 +121,7 @@ def main(line: list[str]) -> int:
     if given.list is not None:
         if given.files:
             known.error("--list takes one image and nothing else")
-        image = read_image(given.list)
+        image = read_image(given.list, None)
         print(json.dumps(making.tree(image)) if given.json else "\n".join(making.listing(image)))
     elif given.json:
         known.error("--json is for --list")

@@ -32,7 +32,7 @@ def main(line: list[str]) -> int:
     given = known.parse_args(line)
     if given.check == (given.folder is not None):
         known.error("give a folder, or --check")
-    commands = [*gate.PROGRAMS, *layout.tools_of(layout.shipped(ROOT))]
+    commands = [*gate.PROGRAMS, *layout.commands(ROOT)]
     if given.check:
         wrong = list(stale(commands))
         print("\n".join([*wrong, f"{len(wrong)} of {len(commands)} man pages can't be made"]))

@@ -68,10 +68,15 @@ def chosen(names: list[str], left_out: tuple[str, ...]) -> list[unittest.TestCas
     return [test for test in found if not patterns or any(fnmatch.fnmatchcase(test.id(), pattern) for pattern in patterns)]
 
 
+def name_of(test: unittest.TestCase) -> str:
+    """The name of a test, or of the class whose tests were all skipped at once."""
+    return test.id().removeprefix("setUpClass (").removesuffix(")").removeprefix("tests.").removeprefix("__main__.")
+
+
 def skipped_lines(skipped: list[tuple[unittest.TestCase, str]]) -> Iterator[str]:
     """How many tests were skipped for which reason, and which."""
     for reason, count in Counter(reason for _, reason in skipped).items():
-        own = dict.fromkeys(test.id().removeprefix("tests.") for test, why in skipped if why == reason)
+        own = dict.fromkeys(name_of(test) for test, why in skipped if why == reason)
         yield f"skipped {count}: {reason} ({', '.join(own)})"
 
 

@@ -23,6 +23,7 @@ FEATURES = (
 DIGITS = re.compile("[0-9a-fA-F]{1,16}")
 NOT_WRITTEN = "nothing can be written: the run is what its image and its events make of it"
 ALL, ANY = -1, 0
+EXITED = "W00"  # at the end of the run, for LLDB: it goes on by itself until a thread has done what was asked
 MOST_BYTES = 1 << 16  # of memory in one answer
 # What comes of a packet that isn't formed as the protocol has it.
 MALFORMED = (ValueError, IndexError, KeyError, TypeError, OverflowError)
@@ -44,6 +45,7 @@ class Server:
         self.last_stop = Stop(0, self.first_thread())
         self.general = self.last_stop.who
         self.chosen = None  # the thread that steps backwards are of
+        self.is_lldb = False
 
     def first_thread(self):
         return (self.first, 2) if self.first else self.history.actor() or (FIRST_PID, 2)
@@ -100,6 +102,8 @@ class Server:
             stop = Stop(old, self.last_stop.who, points.SIGINT, text=f"xous-gdb: {refusal}\n")
         if stop.text:
             self.packets.console(stop.text)
+        if self.is_lldb and stop.step == old == self.run.last:
+            return EXITED
         stop.who = self.thread_to_tell(stop.who)
         self.last_stop, self.general = stop, stop.who
         return self.stop_text(stop)
@@ -127,9 +131,14 @@ class Server:
             return self.go(self.history.step_forward)
         if action[0] == "r":
             start, end = (number(word) for word in action[1:].split(","))
-            who = target.read_thread(thread) if thread else self.general
+            who = self.thread(thread) if thread else self.general
             return self.go(lambda: self.history.step_over(who, start, end))
         return None
+
+    def go_on(self, text):
+        """The packets c and s, which LLDB sends in place of vCont. None goes on at another address."""
+        moves = {"c": self.history.forward, "s": self.history.step_forward}
+        return self.go(moves[text]) if text in moves else "E01"
 
     def backward(self, text):
         moves = {"c": self.history.backward, "s": self.history.step_backward}
@@ -137,8 +146,13 @@ class Server:
 
     # What is there.
 
+    def thread(self, text):
+        """The pid and tid of a thread id. LLDB leaves out the pid, and means its one process."""
+        pid, tid = target.read_thread(text)
+        return (self.general[0] if pid == ANY and tid not in (ALL, ANY) else pid), tid
+
     def choose(self, text):
-        pid, tid = target.read_thread(text[1:])
+        pid, tid = self.thread(text[1:])
         if text[0] == "g" and pid not in (ALL, ANY):
             self.general = pid, tid if tid not in (ALL, ANY) else self.some_tid(pid)
         return "OK"
@@ -150,7 +164,12 @@ class Server:
         return f"QC{target.thread_text(self.general)}"
 
     def is_alive(self, text):
-        return "OK" if target.read_thread(text) in target.listed(self.history.state()) else "E01"
+        return "OK" if self.thread(text) in target.listed(self.history.state()) else "E01"
+
+    def machine(self, _):
+        """What LLDB asks for of the host, and of its process, if it has no program. gdb asks for neither."""
+        self.is_lldb = True
+        return f"pid:{self.general[0]:x};triple:{target.TRIPLE.encode().hex()};ptrsize:4;endian:little;"
 
     def first_threads(self, _):
         return "m" + ",".join(map(target.thread_text, target.listed(self.history.state(), self.first)))
@@ -159,7 +178,7 @@ class Server:
         return "l"
 
     def extra(self, text):
-        return target.thread_note(self.history.state(), target.read_thread(text)).encode().hex()
+        return target.thread_note(self.history.state(), self.thread(text)).encode().hex()
 
     def read_registers(self, _):
         return target.registers(self.history.state(), self.general)
@@ -272,6 +291,8 @@ HANDLERS = {
     "H": Server.choose,
     "?": Server.last_status,
     "qC": Server.current,
+    "qHostInfo": Server.machine,
+    "qProcessInfo": lambda server, text: server.machine(text) if not text else None,  # not qProcessInfoPID
     "qfThreadInfo": Server.first_threads,
     "qsThreadInfo": Server.more_threads,
     "qThreadExtraInfo,": Server.extra,
@@ -289,5 +310,7 @@ HANDLERS = {
     "z": Server.remove,
     "D": Server.detach,
     "k": Server.kill,
+    "c": lambda server, text: server.go_on("c" + text),
+    "s": lambda server, text: server.go_on("s" + text),
 }
 HANDLERS["qC"] = lambda server, text: server.current(text) if not text else None  # not qCRC

@@ -13,14 +13,22 @@ from ..states import telling
 REGISTERS = [*telling.NAMES, "pc"]
 PC = REGISTERS.index("pc")
 THREAD = re.compile(r"(?:p(?:-1|[0-9a-fA-F]{1,8})(?:\.(?:-1|[0-9a-fA-F]{1,8}))?|-1|[0-9a-fA-F]{1,8})")
+TRIPLE = "riscv32-unknown-unknown-elf"
+GENERIC = {"ra": "ra", "sp": "sp", "s0": "fp", "pc": "pc"}
 KINDS = {"ra": "code_ptr", "pc": "code_ptr", "sp": "data_ptr", "gp": "data_ptr", "tp": "data_ptr"}
 
 
+def register_row(number, name):
+    """A register. What gdb passes over is for LLDB, which has no table of this machine's registers."""
+    shown = "fp" if name == "s0" else name
+    generic = GENERIC.get(name) or (f"arg{int(name[1:]) + 1}" if re.fullmatch("a[0-7]", name) else None)
+    more = f' generic="{generic}"' if generic else ""
+    more += f' dwarf_regnum="{number}" ehframe_regnum="{number}"' if number < PC else ""
+    return f'<reg name="{shown}" bitsize="32" type="{KINDS.get(name, "int")}" regnum="{number}" encoding="uint" format="hex"{more}/>'
+
+
 def description():
-    rows = "".join(
-        f'<reg name="{"fp" if name == "s0" else name}" bitsize="32" type="{KINDS.get(name, "int")}" regnum="{number}"/>'
-        for number, name in enumerate(REGISTERS)
-    )
+    rows = "".join(register_row(number, name) for number, name in enumerate(REGISTERS))
     feature = f'<feature name="org.gnu.gdb.riscv.cpu">{rows}</feature>'
     machine = "<architecture>riscv:rv32</architecture><osabi>none</osabi>"
     return f'<?xml version="1.0"?><target version="1.0">{machine}{feature}</target>'

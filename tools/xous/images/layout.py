@@ -143,7 +143,8 @@ def check_entry(pid, process):
         raise Fault("EntryOutside", pid)
 
 
-def check_plan(image, data):
+def check_plan(image, data, slots=None):
+    """Raises the first fault of the plan; SLOTS of a run take the place of the image's."""
     for pid, process in enumerate(image.processes, FIRST_PID):
         for place, section in enumerate(process.sections):
             check_section(pid, process.sections[:place], section)
@@ -153,7 +154,7 @@ def check_plan(image, data):
         if image.version == 2 and process.check != check_number(data[process.load : end]):
             raise Fault("BadLoad", pid)
         check_entry(pid, process)
-    if image.ram_size < least_ram(image):
+    if image.ram_size < least_ram(image, slots):
         raise Fault("RamTooSmall", 0)
 
 
@@ -163,8 +164,9 @@ def first_pages(processes):
     return OWN_PAGES * len(processes) + sum(len(section.pages()) for section in sections)
 
 
-def least_ram(image):
+def least_ram(image, slots=None):
     """The least RAM in bytes that boots: page tables, first pages or one of them where the others
     have slots, and one frame that stays free."""
-    pages = max(first_pages(image.processes) - (image.slots or 0), 1)
+    slots = (image.slots or 0) if slots is None else slots
+    pages = max(first_pages(image.processes) - slots, 1)
     return PAGE * (TABLE_FRAMES * len(image.processes) + pages + 1)

@@ -4,15 +4,15 @@ from __future__ import annotations
 
 from ..errors import Fault, Refusal
 from ..files import read_file
-from ..machine import FIRST_PID, PAGE
+from ..machine import FIRST_PID, MOST_SLOTS, PAGE
 from .layout import EXECUTABLE, WRITABLE, Image
 from .reading import read
 
 
-def read_image(path: str) -> Image:
-    """The image of a file; its first fault is a sentence."""
+def read_image(path: str, slots: int | None = MOST_SLOTS) -> Image:
+    """The image of a file; its first fault is a sentence. RAM is enough if it is with these slots, which a run may be given."""
     try:
-        return read(read_file(path))
+        return read(read_file(path), slots)
     except Fault as fault:
         raise Refusal(f"{path}: {fault}") from None
 

@@ -81,8 +81,8 @@ def read_names(at, contents):
     return names
 
 
-def read(data: bytes) -> Image:
-    """The image that the bytes spell, or its first fault."""
+def read(data: bytes, slots: int | None = None) -> Image:
+    """The image that the bytes spell, or its first fault. SLOTS that a run is given take the place of the image's."""
     image = read_head(data)
     at = XARG_WORDS * 4
     while at < image.row:
@@ -104,7 +104,7 @@ def read(data: bytes) -> Image:
         at += 8 + 4 * words
     if not image.processes:
         raise Fault("NoProcess", at)
-    check_plan(image, data)
+    check_plan(image, data, slots)
     return image
 
 

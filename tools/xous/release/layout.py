@@ -36,6 +36,12 @@ def tools_of(paths: list[str]) -> list[str]:
     return [path.removeprefix("tools/") for path in paths if path.startswith("tools/xous-")]
 
 
+def commands(root: pathlib.Path) -> list[str]:
+    """The names of the tools for authors by their folder alone, which needs no git."""
+    paths = (f"tools/{path.name}" for path in sorted((root / "tools").glob("xous-*")) if path.is_file())
+    return tools_of([path for path in paths if is_shipped(path)])
+
+
 class Stage:
     """A folder in which a release is laid out. Times and modes don't depend on who makes it."""
 
