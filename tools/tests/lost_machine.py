@@ -1,11 +1,10 @@
-#!/usr/bin/python3
+#!/usr/bin/python3 -SE
 """A stand-in for xousim that plays one program alone, whatever the image is: two threads add to one word without a lock.
 
 It is a model by hand of examples/orders/lost.c, with the rules of turns of docs/machine.md. So what is made of event files can be
 tested without the proved program. The words are `trace IMAGE EVENTS STEPS`.
 """
 
-import pathlib
 import sys
 
 FIRST, SECOND = (2, 2), (2, 3)
@@ -108,7 +107,8 @@ def main(words):
     if len(words) != 4 or words[0] != "trace":
         print("usage: lost_machine trace IMAGE EVENTS STEPS", file=sys.stderr)
         return 2
-    lines, status = Machine().play(pathlib.Path(words[2]).read_text().splitlines(), int(words[3]))
+    with open(words[2], encoding="ascii") as file:
+        lines, status = Machine().play(file, int(words[3]))
     print("\n".join(lines))
     return status
 

@@ -9,13 +9,14 @@ import tempfile
 import time
 
 from xous.images import layout
+from xous.release import layout as release
 from xous.runs import events, orders
 from xous.shaking import schedules
 from xous.shaking.outcomes import USUAL_SEE, failures, rules_of
 from xous.shaking.playing import Player
 
 from .builders import image_of, process
-from .frame import EXAMPLES, TOOLS, Case, need_program, need_searcher
+from .frame import EXAMPLES, ROOT, TOOLS, Case, need, need_program, need_searcher
 from .test_orders import FEW, given_of, stored
 
 STAND_IN = TOOLS / "tests" / "lost_machine.py"
@@ -64,7 +65,7 @@ LOST = {'console "3"; 2 exit 0': "", 'console "1"; 2 exit 1': "2 exit 1", 'conso
 class StandIn(Shaken):
     def test_each_kind_finds_both(self):
         for kind in schedules.KINDS:
-            told = self.shake(self.image, "--steps", "1000", "--kind", kind, "--runs", "150", status=1)
+            told = self.shake(self.image, "--steps", "1000", "--kind", kind, "--runs", "40", status=1)
             self.assertEqual(self.endings(told), LOST, kind)
 
     def test_files(self):
@@ -84,14 +85,14 @@ class StandIn(Shaken):
         self.assertRegex(told, r"  debugger: gdb-multiarch .*target remote \| \S+xous-gdb \S+ \S+ending-[23]\.events")
 
     def test_any_number_of_jobs(self):
-        words = (self.image, "--steps", "1000", "--runs", "40")
+        words = (self.image, "--steps", "1000", "--runs", "30")
         first = self.shake(*words, "--jobs", "1", status=1)
         self.assertEqual(self.shake(*words, "--jobs", "3", status=1), first)
         self.assertEqual(self.endings(self.shake(*words, "--fails", "none")), dict.fromkeys(self.endings(first), ""))
 
     def test_shares(self):
         """The shares of the seeds, joined, are the whole; each names its own part."""
-        words = (self.image, "--steps", "1000", "--runs", "45", "--jobs", "2")
+        words = (self.image, "--steps", "1000", "--runs", "36", "--jobs", "2")
         whole = self.shake(*words, status=1)
         parts = []
         for part in (1, 2, 3):
@@ -201,6 +202,16 @@ class StandIn(Shaken):
         self.assertEqual((ran.returncode, ran.stderr.count("\n")), (1, 1), ran.stderr)
         self.assertIn("ending-1.events: it is there, and isn't an event file", ran.stderr)
         self.assertEqual((folder / "ending-1.events").read_text(), "my notes\n")
+
+
+class Shipped(Case):
+    def test_release(self):
+        """A release has the tool, its parts, and the images that its page names."""
+        need("git")
+        paths = release.shipped(ROOT)
+        self.assertIn("xous-shake", release.tools_of(paths))
+        for path in ("tools/xous/commands/shake.py", "tools/xous/shaking/jobs.py", "examples/orders/store.image", "examples/orders/tally.image"):
+            self.assertIn(path, paths)
 
 
 class Played(Shaken):

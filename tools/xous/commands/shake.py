@@ -51,7 +51,9 @@ STATUSES = """statuses:
 NOTES = """kinds:
   turns  turns of random lengths
   picks  a random thread up to its next call, as far apart as the calls of a run in long turns are
-  pct    probabilistic concurrency testing: random priorities with D - 1 changes"""
+  pct    probabilistic concurrency testing: random priorities with D - 1 changes at random steps. With n threads and k steps, each
+         run finds a bug of depth D with probability at least 1/(n k^(D-1)) (Burckhardt, Kothari, Musuvathi and Nagarakatte,
+         ASPLOS 2010). In long runs it looks at priorities only every few steps, and the bound doesn't hold."""
 USUAL_RUNS, USUAL_STEPS, USUAL_DEPTH = 1_000, 2_000_000, 3
 MOST_SEED, MOST_JOBS, MOST_DEPTH, MOST_PREFIXES = 1 << 62, 1_024, 64, 100_000
 SHARE = re.compile(r"([0-9]{1,9})/([0-9]{1,9})")

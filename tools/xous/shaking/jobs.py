@@ -100,7 +100,7 @@ class Shaker:
             return outcome.text(self.see) == wanted
 
         for turns in (self.turns_done(text), of_events(events.read(text)[0])):
-            found = Smaller(holds, MOST_TRIES, min(MOST_TICK, self.player.left())).small(turns)
+            found = Smaller(holds, MOST_TRIES, min(MOST_TICK, self.player.left() + 1)).small(turns)
             if found:
                 return spelled(found)
         return text

@@ -2,15 +2,20 @@
 
 from __future__ import annotations
 
+import re
+from collections.abc import Iterator
 from dataclasses import dataclass, field
 
+from ..machine import FIRST_PID, FIRST_TID
 from ..runs import events
 from ..runs.acting import Stretch, stretches_of
 from ..runs.seen import is_handler
 from ..transcripts import decode
+from .outcomes import last_of
 from .playing import Player
 
 Thread = tuple[int, int]
+NAMED = re.compile(r"\S+ \S+ reply 0000000a ([0-9a-f]{8})").match
 
 
 @dataclass
@@ -32,10 +37,11 @@ def plain_of(player: Player) -> Plain:
     tail = player.tail()
     transcript = player.play(tail)
     first = player.start.steps
-    last = int(transcript.split()[-2])
+    last = last_of(transcript).step
     played = [*player.start.events, *events.read(tail)[0]]
     lines = lines_of(player, transcript)
-    known = {who for who in map(thread_of, lines) if who is not None} | {(pid, 2) for pid in range(2, player.processes + 2)}
+    known = {(pid, FIRST_TID) for pid in range(FIRST_PID, FIRST_PID + player.processes)}
+    known |= {who for line in lines for who in threads_of(line)}
     stretches = stretches_of(lines, played, player.processes)
     return Plain(
         max(last - first, 1),
@@ -51,9 +57,14 @@ def lines_of(player: Player, transcript: bytes) -> list[str]:
     return before[:-1] + transcript.decode("latin-1").splitlines()
 
 
-def thread_of(line: str) -> Thread | None:
-    """The thread of a line."""
-    return decode.THREADS[line.split(" ", 2)[1]]
+def threads_of(line: str) -> Iterator[Thread]:
+    """The thread of a line, and the one that a reply names, which may be a new one."""
+    who = decode.THREADS[line.split(" ", 2)[1]]
+    if who is not None:
+        yield who
+        named = NAMED(line)
+        if named:
+            yield who[0], int(named[1], 16)
 
 
 def apart_of(stretches: list[Stretch], lines: list[str], first: int) -> dict[Thread, list[int]]:
