@@ -59,6 +59,17 @@ class Shaken(Case):
         return rows[at : at + 2 + len(self.endings(told))]
 
 
+def is_gone(group):
+    """Whether no process of a group is left, within some seconds."""
+    for _ in range(100):
+        try:
+            os.killpg(group, 0)
+        except ProcessLookupError:
+            return True
+        time.sleep(0.1)
+    return False
+
+
 LOST = {'console "3"; 2 exit 0': "", 'console "1"; 2 exit 1': "2 exit 1", 'console "2"; 2 exit 1': "2 exit 1"}
 
 
@@ -131,7 +142,7 @@ class StandIn(Shaken):
             os.killpg(started.pid, signal.SIGINT)
             told, said = started.communicate(timeout=60)
             self.assertEqual((started.returncode, said), (130, "xous-shake: interrupted\n"))
-            self.assertRaises(ProcessLookupError, os.killpg, started.pid, 0)
+            self.assertTrue(is_gone(started.pid))
         told = first + told
         self.assertRegex(told.splitlines()[0], "^ending 1: ")
         self.assertRegex(told, r"\d endings? in \d+ runs?; ")
@@ -256,16 +267,18 @@ class Played(Shaken):
             self.assertEqual(set(self.endings(told)), {f'console "{sum_}"; 2 exit 0' for sum_ in (1, 2, 3)}, kind)
 
     def test_lost_key(self):
-        """The store of two threads: a key is lost, an addition is lost, and nobody prints; by each kind of schedule."""
+        """The store of two threads: a key is lost, an addition is lost, and nobody prints. Each kind of schedule finds a lost key."""
         folder = self.folder / "made"
-        told = self.shake(ORDERS / "store.image", "--runs", "600", "--write", folder, status=1)
+        told = self.shake(ORDERS / "store.image", "--runs", "120", "--kind", "turns", "--write", folder, status=1)
         found = self.endings(told)
-        for part in ("3 keys, total 2", "2 keys", "total 1", "console empty", "exit 1"):
+        right = 'console "3 keys, total 2\\n"; 2 waits: 2.2 receives at store, 2.3 receives at store; 3 exit 0; 4 exit 0'
+        self.assertEqual(found[right], "")
+        for part in ("3 exit 1", "4 exit 1", "total 1\\n", "console empty"):
             self.assertTrue(any(part in text for text in found), (part, found))
         self.holds_files(ORDERS / "store.image", folder, told)
-        for kind in schedules.KINDS:
-            told = self.shake(ORDERS / "store.image", "--runs", "300", "--kind", kind, status=1)
-            self.assertTrue(any("2 keys" in text for text in self.endings(told)), kind)
+        for kind, runs in (("picks", 60), ("pct", 200)):
+            told = self.shake(ORDERS / "store.image", "--runs", runs, "--kind", kind, status=1)
+            self.assertTrue(any("exit 1" in fails for fails in self.endings(told).values()), kind)
 
     def test_lost_update(self):
         """The tally in Rust: an addition is lost, by each kind of schedule."""

@@ -230,17 +230,15 @@ class Search:
             ending = self.found.take(result)
             runs = self.found.runs()
             if ending is not None:
+                if self.keeps_events():
+                    self.keep(ending, result.events)  # as they came, so that they are there whatever comes
                 self.progress.clear()
                 print(ending.line(len(self.found.endings)), flush=True)
-                self.keep_first(jobs, ending)
             self.progress.show(f"{runs:,} runs, {counted(len(self.found.endings), 'ending')}, {self.progress.rate(runs):,.0f} runs a second")
         self.progress.clear()
 
-    def keep_first(self, jobs: Jobs, ending: Ending) -> None:
-        """The events of the ending as they came, so that they are there whatever comes."""
-        if self.given.write or self.given.json:
-            for text in jobs.each("events", [(ending.seed,)]):
-                self.keep(ending, text)
+    def keeps_events(self) -> bool:
+        return bool(self.given.write or self.given.json)
 
     def keep(self, ending: Ending, text: bytes) -> None:
         whole = self.shaker.player.whole(text)
@@ -251,7 +249,7 @@ class Search:
 
     def make_small(self, jobs: Jobs) -> None:
         """Takes a small event file for each ending, those that fail first."""
-        if not (self.given.write or self.given.json):
+        if not self.keeps_events():
             return
         endings = sorted(self.found.endings.values(), key=lambda ending: (not ending.fails, ending.met_limit))
         for number, text in enumerate(jobs.each("small", [(ending.seed, ending.seen) for ending in endings])):

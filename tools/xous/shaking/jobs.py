@@ -18,7 +18,7 @@ from ..errors import Refusal
 from ..runs import events, seen
 from ..runs.acting import stretches_of
 from . import schedules
-from .outcomes import Outcome, Rule, failures
+from .outcomes import Rule, failures
 from .plain import Plain, Thread, lines_of
 from .playing import RUNNING, Player
 from .smaller import Smaller, Turns, of_events, of_stretches, spelled
@@ -42,6 +42,7 @@ class Result:
     fails: str
     met_limit: bool
     steps: int
+    events: bytes = b""  # of the first seed with this end in a process, behind the start
 
 
 @dataclass
@@ -57,6 +58,7 @@ class Shaker:
 
     def __post_init__(self) -> None:
         self.known: collections.OrderedDict[bytes, bytes] = collections.OrderedDict()
+        self.sent: set[str] = set()  # what was seen in this process
 
     # A run.
 
@@ -80,9 +82,12 @@ class Shaker:
         return text + self.player.tail()
 
     def shake(self, seed: int) -> Result:
-        outcome = self.player.outcome(self.events(seed))
-        kind = schedules.kind_of(seed, self.kinds)
-        return Result(seed, kind, outcome.text(self.see), failures(outcome, self.rules), outcome.met_limit, outcome.steps)
+        events_of_seed = self.events(seed)
+        outcome = self.player.outcome(events_of_seed)
+        text, kind = outcome.text(self.see), schedules.kind_of(seed, self.kinds)
+        first = b"" if text in self.sent else events_of_seed
+        self.sent.add(text)
+        return Result(seed, kind, text, failures(outcome, self.rules), outcome.met_limit, outcome.steps, first)
 
     # Small files.
 
@@ -100,7 +105,7 @@ class Shaker:
             return outcome.text(self.see) == wanted
 
         for turns in (self.turns_done(text), of_events(events.read(text)[0])):
-            found = Smaller(holds, MOST_TRIES, min(MOST_TICK, self.player.left() + 1)).small(turns)
+            found = Smaller(holds, MOST_TRIES, min(MOST_TICK, 10 * self.player.steps)).small(turns)
             if found:
                 return spelled(found)
         return text
@@ -110,9 +115,6 @@ class Shaker:
         played = [*self.player.start.events, *events.read(text)[0]]
         lines = lines_of(self.player, self.player.play(text))
         return of_stretches(stretches_of(lines, played, self.player.processes), self.player.start.steps)
-
-    def outcome_of(self, text: bytes) -> Outcome:
-        return self.player.outcome(text)
 
 
 # Processes.
@@ -132,6 +134,8 @@ def begin(shaker: Shaker) -> None:
 def end(_signal: int, _frame: object) -> NoReturn:
     for process in RUNNING:
         process.kill()
+        with contextlib.suppress(ChildProcessError):
+            os.waitpid(process.pid, 0)
     os._exit(1)
 
 

@@ -73,7 +73,7 @@ class Rule:
     def failures(self, outcome: Outcome) -> Iterator[str]:
         """In words what fails of a run."""
         if self.kind in (EXIT, FAULT):
-            for pid, how in outcome.ends.items():
+            for pid, how in sorted(outcome.ends.items()):
                 if how.startswith(f"{self.kind} ") and how != "exit 0":
                     yield f"{pid} {how}"
         elif self.kind == WAITS and not outcome.met_limit:
