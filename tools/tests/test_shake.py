@@ -309,7 +309,7 @@ class Played(Shaken):
                 self.assertTrue(made.startswith(b"tick 30\npick 2 2\ntick 12\n"))
                 self.assertEqual(player.outcome(made).text(USUAL_SEE), text)
         start.write_text("tick 10000000\n" * 3)
-        self.refused(1, "one.img: ", self.image, "--from", start, "--steps", "1000")
+        self.refused(1, "it meets the step limit of 1000 already", self.image, "--from", start, "--steps", "1000")
 
     def test_prefixes(self):
         """The endings behind the prefixes together are those of the whole search."""
