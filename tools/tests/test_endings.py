@@ -22,6 +22,7 @@ LEND, FAULT = EXAMPLES / "lend", EXAMPLES / "fault"
 TOOLS_BY_MODULE = {
     "view": "xous-view",
     "where": "xous-where",
+    "shake": "xous-shake",
     "image": "xous-image",
     "state": "xous-state",
     "gdb": "xous-gdb",

@@ -21,10 +21,11 @@ from concurrent.futures import ThreadPoolExecutor
 from dataclasses import dataclass, field
 
 from ..errors import Refusal
-from ..machine import FIRST_PID, MOST_STEPS, TIMER_INTERRUPT
+from ..machine import MOST_STEPS, TIMER_INTERRUPT
 from ..states import state
 from ..transcripts import decode
 from . import events, found
+from .seen import of_state
 
 WORKERS = 3
 
@@ -180,27 +181,4 @@ class Search:
 
 def seen(node):
     """What is seen of an ending: the console, who lives, and for what each thread waits."""
-    machine = node.machine
-    parts = [f"console {node.console.hex() or 'empty'}"]
-    for place, process in enumerate(machine.processes):
-        pid = place + FIRST_PID
-        waits = [wait_of(machine, thread) for who, thread in sorted(machine.threads.items()) if who[0] == pid and is_busy(thread)]
-        parts.append(f"{pid} waits: {', '.join(waits)}" if process.alive else f"{pid} gone")
-    return "; ".join(parts)
-
-
-def is_busy(thread):
-    """It isn't an interrupt thread that runs no handler."""
-    return thread.state != state.IDLE
-
-
-def wait_of(machine, thread):
-    name = f"{thread.pid}.{thread.tid}"
-    if thread.state == state.RECEIVING:
-        return f"{name} receives at {machine.server(thread.waits_for).name}"
-    if thread.state == state.WAITING:
-        server, message, held = machine.find_message(thread.waits_for)
-        return f"{name} waits for message {message.number} {'held' if held else 'queued'} at {server.name}"
-    if thread.state == state.JOINING:
-        return f"{name} joins {thread.pid}.{thread.waits_for}"
-    return f"{name} ready"
+    return of_state(node.machine, node.console).text()

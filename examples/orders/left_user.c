@@ -1,0 +1,2 @@
+#define OWN LEFT
+#include "user.h"

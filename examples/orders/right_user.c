@@ -1,0 +1,2 @@
+#define OWN RIGHT
+#include "user.h"
