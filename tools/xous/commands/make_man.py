@@ -10,7 +10,7 @@ from ..errors import Refusal
 from ..release import gate, layout, manual
 
 USAGE = "make-man FOLDER | --check"
-DESCRIPTION = """Makes the man pages of xousim, xousorders and the tools for authors, of each --help and of docs/output.md.
+DESCRIPTION = """Makes the man pages of xousim, xousorders and the tools for authors, of each --help, docs/output.md and docs/transcript.md.
 
 With --check it writes nothing, and prints what a page can't be made of: a help that lacks statuses or an example, or one that
 docs/output.md contradicts."""

@@ -1,4 +1,4 @@
-"""Man pages, made of what `--help` prints and of docs/output.md, so that they say what these say."""
+"""Man pages, made of what `--help` prints, of docs/output.md and of docs/transcript.md, so that they say what these say."""
 
 from __future__ import annotations
 
@@ -15,8 +15,8 @@ from . import gate
 PAGES = "/usr/share/doc/xousim/"
 SHARE = "/usr/share/xousim/"
 OUTPUT = "docs/output.md"
-# The sections of docs/output.md that the page of xousim has, with the names that they get there.
-OF_OUTPUT = {"Event files": "EVENT FILES", "What a command writes": "OUTPUT"}
+# The sections of pages that the page of xousim has, with the names that they get there.
+OF_PAGES = {(OUTPUT, "Event files"): "EVENT FILES", (OUTPUT, "What a command writes"): "OUTPUT", ("docs/transcript.md", "A line"): "TRANSCRIPT"}
 ITEM = re.compile(r"  (\S.*?)(?:  +(\S.*)|$)").fullmatch
 STATUS = re.compile(r"  (\d+) +(.*)").fullmatch
 FAULT = re.compile(r"[A-Z]\w+ at \d+: ").match  # begins a line of its own
@@ -175,14 +175,15 @@ class Help:
                 yield from (".PP", *(plain(line.strip()) for line in said))
 
 
-# What docs/output.md has.
+# What the pages have.
 
 
-def part_of(text: str, title: str) -> str:
+def part_of(root: pathlib.Path, where: str, title: str) -> str:
     """A section of a page of Markdown, without its heading."""
+    text = (root / where).read_text(encoding="utf-8")
     found = re.search(rf"^## {re.escape(title)}\n(.*?)(?=^## |\Z)", text, re.M | re.S)
     if not found:
-        raise Stale(f"{OUTPUT} has no section {title!r}, which the page of xousim has")
+        raise Stale(f"{where} has no section {title!r}, which the page of xousim has")
     return found[1].strip()
 
 
@@ -208,9 +209,9 @@ def of_markdown(text: str) -> Iterator[str]:
             yield from (".PP", *map(marked, lines))
 
 
-def check_statuses(text: str, said: Help) -> None:
+def check_statuses(root: pathlib.Path, said: Help) -> None:
     """Each status of docs/output.md has its line in the help of xousim, with its text, and the help has no other below 126."""
-    rows = [cells(row) for row in part_of(text, "Statuses").split("\n") if row.startswith("|")][2:]
+    rows = [cells(row) for row in part_of(root, OUTPUT, "Statuses").split("\n") if row.startswith("|")][2:]
     wanted = {number: note.strip("`").split(" NAME")[0].split(" N")[0].split(" at ")[0] for _, number, _, note in rows}
     found = {number: words for number, words in said.statuses if int(number) < 126}
     if set(wanted) != set(found):
@@ -253,10 +254,9 @@ def page(root: pathlib.Path, name: str, commands: list[str], version: str, date:
         if section in said.sections:
             yield from (f".SH {section}", *said.lines(section))
     if name == "xousim":
-        output = (root / OUTPUT).read_text(encoding="utf-8")
-        check_statuses(output, said)
-        for title, section in OF_OUTPUT.items():
-            yield from (f".SH {section}", *of_markdown(installed(part_of(output, title))))
+        check_statuses(root, said)
+        for (where, title), section in OF_PAGES.items():
+            yield from (f".SH {section}", *of_markdown(installed(part_of(root, where, title))))
     if not said.statuses:
         raise Stale(f"{name} --help names no statuses")
     yield from (".SH EXIT STATUS", *said.lines("EXIT STATUS"))

@@ -1,4 +1,4 @@
-"""The lines of a transcript as records (docs/output.md, "What a command writes")."""
+"""The lines of a transcript as records (docs/transcript.md, "A line")."""
 
 from __future__ import annotations
 
