@@ -96,8 +96,13 @@ def own_reason(words):
     return "; ".join(part for part in why.split("; ") if not OF_ANOTHER.match(part)) if why else kind
 
 
+def build_below(crate):
+    """Proves and builds the libraries below the crate that aren't built; of the crate itself nothing."""
+    subprocess.run(["rt", "check", "--only="], cwd=crate.folder, stdout=subprocess.DEVNULL, stderr=subprocess.STDOUT, check=False)
+
+
 def check_as_it_stands(crate, jobs):
-    """Proves the crate, and the libraries below it where these aren't built, as `rt check` does."""
+    """Proves the crate, as `rt check` does."""
     words = ["rt", "check", "--jobs", str(jobs)]
     ran = subprocess.run(words, cwd=crate.folder, stdout=subprocess.PIPE, stderr=subprocess.STDOUT, text=True, errors="replace")
     return Check(ran.returncode, ran.stdout)
@@ -113,8 +118,9 @@ def link_or_copy(one, other):
     return shutil.copy2(one, other)
 
 
-def check_with(crate, texts, jobs):
-    """Checks a copy of the crate with these texts in the place of its own."""
+def check_with(crate, texts, jobs, is_first=False):
+    """Checks a copy of the crate with these texts in the place of its own. The first check keeps what it proves where `rt check` does; the
+    others begin with that, and keep nothing."""
     with tempfile.TemporaryDirectory(prefix="try-edits-") as folder:
         room = pathlib.Path(folder)
         for part in PARTS:
@@ -122,7 +128,11 @@ def check_with(crate, texts, jobs):
                 shutil.copytree(crate.folder / part, room / part)
         for name, text in texts.items():
             (room / name).write_text(text)
-        shutil.copytree(crate.folder / KEPT, room / "kept", symlinks=True, copy_function=link_or_copy)
-        words = [*crate.words(jobs), "--incremental", room / "kept"]
+        kept = crate.folder / KEPT if is_first else room / "kept"
+        if is_first:
+            kept.mkdir(parents=True, exist_ok=True)
+        else:
+            shutil.copytree(crate.folder / KEPT, kept, symlinks=True, copy_function=link_or_copy)
+        words = [*crate.words(jobs), "--incremental", kept]
         ran = subprocess.run(words, cwd=room, stdout=subprocess.PIPE, stderr=subprocess.STDOUT, text=True, errors="replace")
     return Check(ran.returncode, ran.stdout)

@@ -45,11 +45,18 @@ def rounds_of(trials):
     return [[of[number] for of in of_function.values() if number < len(of)] for number in range(most)] + alone
 
 
+def texts_with_all(crate, trials):
+    """The texts of the files that the edits change; None where one of them makes the text of another twice."""
+    try:
+        return reading.texts_with(crate.folder, [pair for trial in trials for pair in trial.pairs])
+    except ValueError:
+        return None
+
+
 def try_round(crate, trials, jobs):
     """Tries edits in one check. Where it can't tell them apart, it tries fewer at once. Gives the number of checks."""
-    try:
-        texts = reading.texts_with(crate.folder, [pair for trial in trials for pair in trial.pairs])
-    except ValueError:  # one of them makes the text of another twice
+    texts = texts_with_all(crate, trials)
+    if not texts:
         return try_parts(crate, trials, 1, jobs)
     said = checks.check_with(crate, texts, jobs)
     if len(trials) == 1:
@@ -57,11 +64,10 @@ def try_round(crate, trials, jobs):
         return 1
     if not said.has_verdict():
         return 1 + try_parts(crate, trials, (len(trials) + 1) // 2, jobs)
-    fell, own = said.fell(), set().union(*(trial.symbols for trial in trials))
-    if fell - own or not all(trial.symbols for trial in trials):
+    if not is_told_apart(trials, said):
         return 1 + try_parts(crate, trials, 1, jobs)
     for trial in trials:
-        judge(trial, said, fell)
+        judge(trial, said, said.fell())
     return 1 + try_parts(crate, [trial for trial in trials if not trial.verdict], 1, jobs)
 
 
@@ -96,12 +102,39 @@ def judge_alone(trial, said):
             trial.end(UNSURE, f"no function fell: {last}")
 
 
-def try_all(crate, trials, jobs):
-    """Tries the edits, and gives the number of checks; ValueError where the crate isn't proved as it stands."""
+def name_functions(crate, trials, said):
+    for trial in trials:
+        if trial.function:
+            trial.symbols = functions.symbols_of(trial.function, crate.name, said.functions)
+
+
+def is_told_apart(trials, said):
+    """Whether each of the edits stands in a function that the check names, and nothing else fell."""
+    return all(trial.symbols for trial in trials) and not said.fell() - set().union(*(trial.symbols for trial in trials))
+
+
+def try_first(crate, trials, first, jobs):
+    """Tries edits in a check from nothing, which also proves every other function, for the checks that follow. The crate is proved as
+    it stands only where that check can't tell its edits apart; ValueError where it isn't proved then."""
+    texts = texts_with_all(crate, first)
+    said = texts and checks.check_with(crate, texts, jobs, is_first=True)
+    if said and said.has_verdict():
+        name_functions(crate, trials, said)
+        if is_told_apart(first, said):
+            for trial in first:
+                judge(trial, said, said.fell())
+            return 1 + try_parts(crate, [trial for trial in first if not trial.verdict], 1, jobs)
     base = checks.check_as_it_stands(crate, jobs)
     if base.status:
         raise ValueError(f"{crate.name} isn't proved as it stands: {base.lines[-1]}")
-    for trial in trials:
-        if trial.function:
-            trial.symbols = functions.symbols_of(trial.function, crate.name, base.functions)
-    return sum(try_round(crate, trials, jobs) for trials in rounds_of(trials))
+    name_functions(crate, trials, base)
+    return 1 + try_parts(crate, first, 1 if len(first) < 4 else len(first) // 2, jobs)
+
+
+def try_all(crate, trials, jobs):
+    """Tries the edits, and gives the number of checks; ValueError where the crate isn't proved as it stands."""
+    rounds = rounds_of(trials)
+    if not rounds:
+        return 0
+    checks.build_below(crate)
+    return try_first(crate, trials, rounds[0], jobs) + sum(try_round(crate, it, jobs) for it in rounds[1:])
