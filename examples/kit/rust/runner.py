@@ -30,6 +30,7 @@ from xous.runs.program import find_program  # noqa: E402
 
 OUT = pathlib.Path(os.environ.get("XOUS_RUST_OUT") or ROOT / "examples" / "out" / "rust")  # set by the kit's cargo
 KIT_SERVERS = ("log", "ticktimer", "systime", "names")
+TEST_SERVER = "ticktimer"  # libtest asks it for the time
 FIRST_PID = 2
 TERMINATE = "00000016"
 PANICKED = 101  # the exit word of a program whose first thread panicked
@@ -253,6 +254,11 @@ def status_of(end, name, files, steps, where):
 # The commands.
 
 
+def is_test(program):
+    """Whether it is a program of libtest: cargo puts these into a folder of their own, with a number in their names."""
+    return re.search(r"/deps/[^/]+-[0-9a-f]{16}$|/out/[^/]+-[0-9a-f]{16}$", str(program)) is not None
+
+
 class Machine:
     """What is the same in all runs of a program."""
 
@@ -263,7 +269,10 @@ class Machine:
         if not pathlib.Path(program).is_file():
             raise Refusal(f"{program}: no such program; build it by {KIT / 'cargo'} build")
         self.manifest, self.settings = settings_of(package, workspace)
-        self.servers = paths_of_servers(self.manifest, workspace, self.settings.servers)
+        names = self.settings.servers
+        if is_test(program) and TEST_SERVER not in names:
+            names = [*names, TEST_SERVER]
+        self.servers = paths_of_servers(self.manifest, workspace, names)
         self.pid = FIRST_PID + len(self.servers)
         self.folder = pathlib.Path(os.environ.get("CARGO_TARGET_DIR") or workspace / "target", "xous")
         self.folder.mkdir(parents=True, exist_ok=True)
@@ -321,11 +330,6 @@ def run(machine, words):
     if status and is_test(machine.program):
         machine.name_commands(files)
     return status
-
-
-def is_test(program):
-    """Whether it is a program of libtest: cargo puts these into a folder of their own, with a number in their names."""
-    return re.search(r"/deps/[^/]+-[0-9a-f]{16}$|/out/[^/]+-[0-9a-f]{16}$", str(program)) is not None
 
 
 def tests_of(machine, words):
