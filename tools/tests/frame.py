@@ -7,6 +7,7 @@ import importlib.util
 import os
 import pathlib
 import shutil
+import signal
 import subprocess
 import sys
 import tempfile
@@ -57,6 +58,11 @@ class Given:
 
 
 GIVEN = Given()
+
+
+def heed_interrupts() -> None:
+    """For a process that is started and gets SIGINT: where the tests run in the background of a shell, it is ignored."""
+    signal.signal(signal.SIGINT, signal.SIG_DFL)
 
 
 def need_program() -> str:
