@@ -8,6 +8,7 @@ import os
 import pathlib
 import re
 import shutil
+import signal
 import subprocess
 import sys
 import tempfile
@@ -67,6 +68,11 @@ class Given:
 
 
 GIVEN = Given()
+
+
+def heed_interrupts() -> None:
+    """For a process that is started and gets SIGINT: where the tests run in the background of a shell, it is ignored."""
+    signal.signal(signal.SIGINT, signal.SIG_DFL)
 
 
 def need_program() -> str:

@@ -15,7 +15,7 @@ from xous import command
 from xous.errors import Refusal
 
 from .builders import elf
-from .frame import EXAMPLES, GIVEN, ROOT, TOOLS, Case, need
+from .frame import EXAMPLES, GIVEN, ROOT, TOOLS, Case, heed_interrupts, need
 from .test_programs import TEXT
 
 LEND, FAULT = EXAMPLES / "lend", EXAMPLES / "fault"
@@ -163,7 +163,8 @@ class Streams(Case):
 
     def test_interrupt(self):
         words = [sys.executable, TOOLS / "xous-view"]
-        with subprocess.Popen(words, stdin=subprocess.PIPE, stdout=subprocess.PIPE, stderr=subprocess.PIPE, text=True) as started:
+        pipes = {"stdin": subprocess.PIPE, "stdout": subprocess.PIPE, "stderr": subprocess.PIPE, "text": True}
+        with subprocess.Popen(words, preexec_fn=heed_interrupts, **pipes) as started:
             started.stdin.write("end 1 done\n")
             started.stdin.flush()
             started.stdout.readline()

@@ -9,6 +9,8 @@ import tempfile
 import time
 import unittest
 
+from .frame import heed_interrupts
+
 TOP = pathlib.Path(__file__).resolve().parents[2]
 FAR = 2**31 - 9
 # What rt builds: a program that prints its usage line if it has no words.
@@ -267,7 +269,7 @@ class Launcher(unittest.TestCase):
         self.tree.rt(ENDLESS)
         for number in (signal.SIGINT, signal.SIGTERM):
             with self.subTest(number=number):
-                start = self.tree.begin("one", start_new_session=True)
+                start = self.tree.begin("one", start_new_session=True, preexec_fn=heed_interrupts)
                 self.wait_for("calls")
                 os.killpg(start.pid, number)
                 start.communicate(timeout=60)
@@ -275,7 +277,3 @@ class Launcher(unittest.TestCase):
                 self.assertEqual((self.tree.count("calls"), self.tree.left()), (1, []))
         self.tree.rt(GOOD)
         self.assertEqual(self.tree.start()[:2], (0, "played check an image\n"))
-
-
-if __name__ == "__main__":
-    unittest.main()

@@ -21,6 +21,10 @@ LAST = "0xffffffff"  # an address after each that is asked for, whose answer end
 LINE = re.compile(r"(.*):([0-9]+)(?: \(discriminator [0-9]+\))?")
 
 
+# Sources whose functions stand in those of a program where they are inlined: headers of C, Rust's std, the kit's crate.
+LIBRARY = re.compile(r".*\.h|/rust/library/.*|(?:.*/)?examples/kit/rust/xous/.*")
+
+
 @dataclass
 class Spot:
     """A function, with a file and a line of the source where they are known."""
@@ -28,6 +32,7 @@ class Spot:
     function: str
     file: str = ""
     line: int = 0
+    is_library: bool = False
 
     def __str__(self) -> str:
         return f"{self.function} at {self.file}:{self.line}" if self.line else self.function
@@ -92,6 +97,6 @@ class Lines:
         while (function := told.readline().rstrip("\n")) and function != LAST:
             match = LINE.fullmatch(told.readline().rstrip("\n"))
             if match and int(match[2]):
-                yield Spot(function, os.path.basename(match[1]), int(match[2]))
+                yield Spot(function, os.path.basename(match[1]), int(match[2]), LIBRARY.fullmatch(match[1]) is not None)
         told.readline()
         told.readline()

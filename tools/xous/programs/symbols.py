@@ -1,7 +1,7 @@
 """Programs with their symbols: in which function and line an address is, and where a symbol stands.
 
-A call of the kit is an inline function, so the address of its ECALL is a line of a header. What a reader asks for
-is the line of the program that called it: the first one, from the inside, that isn't of a header.
+A call of the kit is an inline function, so the address of its ECALL is a line of a header; so are many functions of Rust's
+std. What a reader asks for is the line of the program that called it: the first one, from the inside, that isn't a library's.
 """
 
 from __future__ import annotations
@@ -81,15 +81,20 @@ class Program:
         """The spots of an address from the inside: its own, and those of the calls that were inlined around it."""
         return self.lines.frames(address) if self.lines is not None else []
 
+    def own_frame(self, address: int) -> Spot | None:
+        """The first spot from the inside that isn't a library's; the innermost one in a function of a library itself."""
+        frames = self.frames(address)
+        return next((spot for spot in frames if not spot.is_library), frames[0] if frames else None)
+
     def spot(self, address: int) -> Spot:
         """Where in the source an instruction is, as far as the program has that."""
         function = self.symbol_at(address) or f"{address:08x}"
-        own = next((spot for spot in self.frames(address) if not spot.file.endswith(".h")), Spot(function))
+        own = self.own_frame(address) or Spot(function)
         return Spot(function, own.file, own.line) if own.function.startswith((".", "?")) else own
 
     def text(self, address: int) -> str:
         """Symbol and line of an address as `<store+4 client.c:6>`, or nothing."""
-        frames = self.frames(address)
-        line = f"{plain(frames[0].file)}:{frames[0].line}" if frames else ""
+        own = self.own_frame(address)
+        line = f"{plain(own.file)}:{own.line}" if own else ""
         inside = " ".join(part for part in (self.symbol_at(address), line) if part)
         return f"<{inside}>" if inside else ""
