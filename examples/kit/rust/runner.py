@@ -13,6 +13,7 @@ import os
 import pathlib
 import random
 import re
+import shlex
 import subprocess
 import sys
 import threading
@@ -259,8 +260,8 @@ class Machine:
     def __init__(self, program):
         package = pathlib.Path(os.environ.get("CARGO_MANIFEST_DIR") or ".").resolve()
         workspace = workspace_of(package)
-        self.program, self.name = program, pathlib.Path(program).name
-        if not pathlib.Path(program).is_file():
+        self.program, self.name = pathlib.Path(program).absolute(), pathlib.Path(program).name
+        if not self.program.is_file():
             raise Refusal(f"{program}: no such program; build it by {KIT / 'cargo'} build")
         self.manifest, self.settings = settings_of(package, workspace)
         self.servers = paths_of_servers(self.manifest, workspace, self.settings.servers)
@@ -290,8 +291,7 @@ class Machine:
 
     def judge(self, end, files):
         image, events = files
-        elf = f"--elf {self.pid}={self.program}"
-        where = f"{ROOT}/tools/xous-where {image} {events} {elf}"
+        where = shlex.join([f"{ROOT}/tools/xous-where", str(image), str(events), "--elf", f"{self.pid}={self.program}"])
         return status_of(end, self.name, f"{image} or {events}", self.settings.steps, where)
 
 
