@@ -13,6 +13,7 @@ import os
 import pathlib
 import random
 import re
+import shlex
 import subprocess
 import sys
 import threading
@@ -265,8 +266,8 @@ class Machine:
     def __init__(self, program):
         package = pathlib.Path(os.environ.get("CARGO_MANIFEST_DIR") or ".").resolve()
         workspace = workspace_of(package)
-        self.program, self.name = program, pathlib.Path(program).name
-        if not pathlib.Path(program).is_file():
+        self.program, self.name = pathlib.Path(program).absolute(), pathlib.Path(program).name
+        if not self.program.is_file():
             raise Refusal(f"{program}: no such program; build it by {KIT / 'cargo'} build")
         self.manifest, self.settings = settings_of(package, workspace)
         names = self.settings.servers
@@ -305,7 +306,8 @@ class Machine:
 
     def judge(self, end, files):
         image, events = files
-        where = f"{ROOT}/tools/xous-where {image} {events} {self.settings.steps} {self.elf()}"
+        known = [str(image), str(events), str(self.settings.steps), "--elf", f"{self.pid}={self.program}"]
+        where = shlex.join([f"{ROOT}/tools/xous-where", *known])
         return status_of(end, self.name, f"{image} or {events}", self.settings.steps, where)
 
     def name_commands(self, files):
