@@ -22,6 +22,16 @@ exit STATUS
 """
 
 
+def search(whole="whole", endings="1", status=0):
+    """The text of a stand-in for xousorders."""
+    count = len(endings.split())
+    values = {"WHOLE": whole, "ENDINGS": endings, "STATUS": str(status), "COUNT": f"{count} ending{'s' * (count != 1)}"}
+    text = SEARCH
+    for name, value in values.items():
+        text = text.replace(name, value)
+    return text
+
+
 def environment():
     """Where the programs are."""
     programs = {"XOUSIM": GIVEN.program, "XOUSORDERS": GIVEN.searcher}
@@ -42,12 +52,7 @@ class Script(Case):
         (self.folder / name).chmod(0o755)
 
     def search(self, whole="whole", endings="1", status=0):
-        count = len(endings.split())
-        values = {"WHOLE": whole, "ENDINGS": endings, "STATUS": str(status), "COUNT": f"{count} ending{'s' * (count != 1)}"}
-        text = SEARCH
-        for name, value in values.items():
-            text = text.replace(name, value)
-        self.program("xousorders", text)
+        self.program("xousorders", search(whole, endings, status))
 
     def start(self, *words, **more):
         programs = {"XOUSIM": "./xousim", "XOUSORDERS": "./xousorders", "ELFS": "--elf 2=out/mine.elf", "PATH": "/usr/bin:/bin"}
@@ -132,7 +137,8 @@ class Projects(Case):
         return self.folder / "mine"
 
     def make(self, folder, *words):
-        ran = subprocess.run(["make", "-s", *words], cwd=folder, env=environment(), capture_output=True, text=True, check=False)
+        how = {"cwd": folder, "env": environment(), "stdin": subprocess.DEVNULL, "capture_output": True, "text": True}
+        ran = subprocess.run(["make", "-s", *words], check=False, **how)
         return ran.returncode, ran.stdout + ran.stderr
 
     def change(self, path, old, new):
@@ -227,17 +233,20 @@ class Projects(Case):
         self.check_failures_in_rust(made)
 
     def check_failures_in_rust(self, made):
-        """A unit test, the transcript, and the orders: each that fails names its event file, and two commands."""
-        source = made / "src" / "main.rs"
+        """A unit test, the transcript, and the orders: each that fails names its event file, and two commands. Two endings are those
+        of a stand-in, since a search with a second thread of std takes minutes."""
+        source, searcher = made / "src" / "main.rs", self.folder / "two-endings"
+        searcher.write_text(search(endings="1 2", status=1))
+        searcher.chmod(0o755)
         for target, old, new, events in (
             ("test-units", "42);", "41);", r".*/target/xous/mine-[0-9a-f]+\.tests\.the_answer\.1\.events"),
             ("test-transcript", "six times seven", "seven times six", "target/xous/mine.events"),
-            ("test-orders", "    println!", '    std::thread::spawn(|| println!("a"));\n    println!', "target/xous/orders/ending-1.events"),
+            (f"XOUSORDERS={searcher} test-orders", "six times seven", "6 times 7", "target/xous/orders/ending-1.events"),
         ):
             with self.subTest(target):
                 kept = source.read_text()
                 self.change(source, old, new)
-                status, said = self.make(made, target)
+                status, said = self.make(made, *target.split(" "))
                 self.assertEqual(status, 2, said)
                 self.assertRegex(said, f"(?m)^event file: {events}$")
                 self.run_commands(said, made)
