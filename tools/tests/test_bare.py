@@ -14,7 +14,8 @@ COMMANDS = [name for name in PACKAGES if name not in ("elftools", "hypothesis", 
 OTHERS = ("riscv64-", "riscv32-", "llvm-", "clang", "gdb", "lldb", "chrom", "google-chrome", "python3-", "c++filt", "addr2line")
 # Tests that need something; those alone that are quick without it.
 NAMES = ("test_any_bytes", "test_assembled", "test_charts.Charts.test_p", "test_commands", "test_demangle", "test_gdb.Gdb", "test_kit.")
-NAMES += ("test_lines", "test_lldb", "test_programs", "test_project.Projects", "test_release", "test_runner", "test_view.Command.test_s", "test_where")
+NAMES += ("test_lines", "test_lldb", "test_machines", "test_programs", "test_project.Projects", "test_readme", "test_release", "test_runner")
+NAMES += ("test_shake.Shipped", "test_view.Command.test_s", "test_where", "test_workflow")
 HIDE = "import sys\nsys.path[:] = [each for each in sys.path if not each.endswith('dist-packages')]\n"
 
 
