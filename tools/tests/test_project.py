@@ -15,7 +15,7 @@ while [ "$1" != --write ]; do shift; done
 echo 'states 4 slices 6 WHOLE'
 for ending in ENDINGS; do
     echo "ending $ending: console 3$ending; 1 node; 2 slices"
-    echo 'tick 1' >"$2/ending-$ending.events"
+    echo 'tick 20000' >"$2/ending-$ending.events"
 done
 echo 'COUNT'
 exit STATUS
