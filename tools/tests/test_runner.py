@@ -47,7 +47,8 @@ class Runner(Case):
         return ran.returncode, ran.stdout, ran.stderr
 
     def test_ends(self):
-        where = f"tools/xous-where {self.folder}/target/xous/mine.img {self.folder}/target/xous/mine.events --elf 2={self.program}"
+        files = f"{self.folder}/target/xous/mine.img {self.folder}/target/xous/mine.events"
+        where = f"tools/xous-where {files} 1000000000 --elf 2={self.program}"
         for transcript, said, status, sentence in (
             (TERMINATES.format(0), "", 0, ""),
             (TERMINATES.format(3), "", 3, ""),
