@@ -334,6 +334,27 @@ def rust_order(name):
     return (kind, name)
 
 
+BLOCK = re.compile(r"(?:^[ \t]*use [^;]+;\n)+", re.M)
+
+
+def sorted_uses(text):
+    """The lines `use` of each block in the order of rustfmt: self, super and crate first, then by name."""
+
+    def in_order(found):
+        lines = re.findall(r"^[ \t]*use [^;]+;\n", found[0], re.M)
+        return "".join(sorted(lines, key=use_order))
+
+    return BLOCK.sub(in_order, text)
+
+
+def use_order(line):
+    path = re.sub(r"\s+", " ", line.strip().removeprefix("use "))
+    words = path.split("::")
+    near = ("self", "super", "crate")
+    first = near.index(words[0]) if words[0] in near else len(near)
+    return [(first, rust_order(words[0])), *((0, (3, "") if word.startswith("{") else rust_order(word.rstrip(";"))) for word in words[1:])]
+
+
 class Part:
     """A crate as it is before the join."""
 
@@ -449,7 +470,9 @@ def merged_uses(rooms, before, moves=()):
     for place, (name, libraries) in enumerate(before.items()):
         to = new.get(name, name)
         wanted = used.setdefault(to, [])
-        wanted += [new.get(each, each) for each in libraries if new.get(each, each) not in (to, *wanted)]
+        for each in (new.get(each, each) for each in libraries):
+            if each not in (to, *wanted):
+                wanted.append(each)
         at[to] = max(at.get(to, 0), place)
     for move, cited in moves:
         target = new.get(move.target, move.target)
@@ -590,7 +613,7 @@ def plan(rows, keep_going):
 RATTLE = re.compile(r"(?<![\w.])Rattle\.([a-z]\w*)\.(specs|proofs)((?:\.[^\s.{}(),;`\"]+)*)")
 INNER = re.compile(r"(?<![\w:])crate::(specs|proofs)((?:::\w+)*)")
 OUTER = re.compile(r"(?<![\w:])([a-z]\w*)((?:::\w+)+)")
-USE = re.compile(r"^(\s*)((?:pub(?:\([a-z]+\))? )?use )([a-z]\w*)::([^;]+);\n", re.M)
+USE = re.compile(r"^([ \t]*)((?:pub(?:\([a-z]+\))? )?use )([a-z]\w*)::([^;]+);\n", re.M)
 
 
 class Rewriter:
@@ -622,7 +645,7 @@ class Rewriter:
         """The paths of Rust in a file of the crate that was `old`."""
         room = self.new.get(old)
         own = self.parts.get(old)
-        modules = set(own.modules) if own else set(MOD.sub(r"\3 ", "")) or modules_of(old)
+        modules = set(own.modules) if own else modules_of(old)
         siblings = {name for name, to in self.new.items() if to == room} if room else set()
         uses = set(self.plan.before.get(old, ()))
 
@@ -662,7 +685,8 @@ class Rewriter:
                 return part.room.name + "::" + "::".join(to)
             return part.room.name + found[2]
 
-        text = USE.sub(use, text)
+        changed = USE.sub(use, text)
+        text = sorted_uses(changed) if changed != text else text
         lines = []
         for line in text.splitlines(keepends=True):
             is_use = re.match(r"\s*(?:pub(?:\([a-z]+\))? )?use ", line)
@@ -831,7 +855,7 @@ def outside(text, file, new, unsure):
         if file.startswith(("tools/", "bench/", ".ci/")):
             end = r'(?=, ")' if old in unsure else ""
             text = re.sub(rf'"{old}"{end}', f'"{name}"', text)
-        if old not in unsure:
+        if old not in unsure or file != "docs/definitions.md":
             text = re.sub(rf"`{old}`", f"`{name}`", text)
     return without_doubles(text, set(new.values()))
 
@@ -936,6 +960,12 @@ def write(whole):
         if part.name != part.room.name:
             remove_empty(part.folder)
     # 3. crates.txt.
+    for name in {*(room.name for room in whole.rooms), *(move.source for move, _, _ in whole.moves)}:
+        cited = "\n".join(path.read_text() for path in (ROOT / "crates" / name).rglob("*") if path.suffix in (".rt", ".antt"))
+        gone = [each for each in whole.used[name] if not re.search(rf"Rattle\.{each}\.|(?<![\w:]){each}::", cited)]
+        if gone:
+            print(f"{name}: no file names {', '.join(gone)}, so crates.txt doesn't either")
+            whole.used[name] = [each for each in whole.used[name] if each not in gone]
     head = [line for line in (ROOT / "crates.txt").read_text().splitlines() if line.startswith("#")]
     (ROOT / "crates.txt").write_text("\n".join([*head, *(f"{name}: {' '.join(whole.used[name])}".rstrip() for name in whole.order)]) + "\n")
     # 4. Pages and tools.
@@ -1036,13 +1066,14 @@ def leftovers(new, unsure):
             for name in sorted(set(word.findall(line))) if word else ():
                 sure = re.search(rf"Rattle\.{name}\.|crates/{name}\b|^use {name}::", line)
                 is_source = file.startswith("crates/") and file.endswith((".rt", ".antt", ".edit"))
-                if name in unsure and not sure and (is_source or file == "docs/definitions.md"):
+                if name in unsure and not sure and (is_source or file in ("docs/definitions.md", "tools/make-lists")):
                     continue  # the name of something else
                 yield f"{file}:{number}: {name}: {line.strip()[:110]}"
-    for file in (*ROOT.glob("docs/*.md"), ROOT / "README.md"):
-        for number, line in enumerate(file.read_text().splitlines(), 1):
-            if len(line) > PAGE_COLUMNS and not line.startswith("|") and "](" not in line:
-                yield f"{file.relative_to(ROOT)}:{number}: {len(line)} columns"
+    for file in git("diff", "--cached", "--name-only", "HEAD", "--", "docs", "README.md").split("\n")[:-1]:
+        before = git("show", f"HEAD:{file}").splitlines()
+        for number, line in enumerate((ROOT / file).read_text().splitlines(), 1):
+            if len(line) > PAGE_COLUMNS and not line.startswith("|") and line not in before:
+                yield f"{file}:{number}: {len(line)} columns"
 
 
 def run(*words):
