@@ -23,6 +23,7 @@ import pathlib
 import re
 import subprocess
 import sys
+import textwrap
 
 ROOT = pathlib.Path(__file__).resolve().parent.parent
 if "--root" in sys.argv:  # for trying it on a copy
@@ -201,8 +202,8 @@ TEXTS = (
         "        kernel_tests            xk_kernel\n"
         "        search_tests            state_search\n",
         "        memory_tests            vm_memory, sv32_space, phys_pages\n"
-        "        kernel_tests            xk_kernel, thread_table, process_table, server_table, irq_claims, msg_queue, loan_flags, swap_map,\n"
-        "                                graph_search\n",
+        "        kernel_tests            xk_kernel, thread_table, process_table, server_table, irq_claims, msg_queue,\n"
+        "                                loan_flags, swap_map, graph_search\n",
     ),
     # What the moved tests expect.
     (
@@ -599,7 +600,9 @@ def plan(rows, keep_going):
             new = {part: room.name for room in rooms for part in room.parts}
             cited = [new.get(each, each) for each in cited_by(files_of_move(move), before) if each != move.source]
             target = new.get(move.target, move.target)
-            moves.append((Move(move.source, target, move.modules), files_of_move(Move(move.source, target, move.modules)), cited))
+            to = Move(move.source, target, move.modules)
+            files = files_of_move(to)
+            moves.append((to, {**files, **needed_lemmas(to, files)}, cited))
     if said:
         print("\n".join(said))
         if not keep_going:
@@ -626,6 +629,8 @@ class Rewriter:
         self.moved = {}  # (source, module) -> target
         for move, _, _ in whole.moves:
             self.moved.update({(move.source, module): move.target for module in move.modules})
+        for move, files, _ in whole.moves:
+            self.moved.update({(move.source, stem): move.target for stem in lemmas_in(move, files)})
 
     def antt(self, text):
         def path(found):
@@ -924,15 +929,13 @@ def write(whole):
         lib = f"crates/{move.source}/src/lib.rt"
         text = texts.get(lib) or (ROOT / lib).read_text()
         texts[lib] = MOD.sub(lambda found, gone=move.modules: "" if found[3] in gone else found[0], text)
-        lemmas = needed_lemmas(move, files)
-        places.update(lemmas)
+        lemmas = lemmas_in(move, files)
         if lemmas:
             for crate, is_source in ((move.source, True), (move.target, False)):
                 declared = f"crates/{crate}/proofs/Lib.antt"
                 path = ROOT / declared
                 lines = set((texts.get(declared) or (path.read_text() if path.exists() else "")).splitlines())
-                for lemma in lemmas:
-                    stem = pathlib.PurePosixPath(lemma).stem
+                for stem in lemmas:
                     lines = {line for line in lines if not line.endswith(f"mod {stem}")}
                     if not is_source:
                         lines.add(f"mod {stem}")
@@ -990,8 +993,36 @@ def write(whole):
         made = outside(text, file, new, unsure)
         if made != text:
             path.write_text(made)
+        if made != text and file.endswith(".md"):
+            rewrapped(file)
     git("add", "-A", "crates", "crates.txt", "docs", "tools", "README.md")
     return missing, new, unsure
+
+
+def rewrapped(file):
+    """A page whose paragraphs with a line that became too long are laid out again."""
+    path = ROOT / file
+    before = set(git("show", f"HEAD:{file}", check=False).splitlines())
+    blocks, block, fence = [], [], False
+    for line in path.read_text().splitlines():
+        fence ^= line.startswith("```")
+        plain = not fence and line.strip() and not re.match(r"```|#|\||<!--|\s*\d+\. |    ", line)
+        if not plain or re.match(r"\s*- ", line):
+            blocks.append(block)
+            block = []
+        if plain:
+            block.append(line)
+        else:
+            blocks.append([line])
+    blocks.append(block)
+    out = []
+    for block in blocks:
+        if any(len(line) > PAGE_COLUMNS and line not in before for line in block) and re.match(r"\S", block[0]) and not block[0].startswith(("|", "#")):
+            indent = "  " if block[0].startswith("- ") else ""
+            text = " ".join(line.strip() for line in block)
+            block = textwrap.wrap(text, PAGE_COLUMNS, subsequent_indent=indent, break_long_words=False, break_on_hyphens=False)
+        out += block
+    path.write_text("\n".join(out) + "\n")
 
 
 class Bare:
@@ -1020,6 +1051,12 @@ def needed_lemmas(move, files):
         elif any(file in files for file in citing):
             print(f"{move.source}: proofs/{path.name} is cited by modules that move and by others that don't: mend it by hand")
     return found
+
+
+def lemmas_in(move, files):
+    """The lemma files among those that move."""
+    paths = map(pathlib.PurePosixPath, files)
+    return [path.stem for path in paths if path.parent == pathlib.PurePosixPath("crates", move.source, "proofs")]
 
 
 def remove_empty(folder):
