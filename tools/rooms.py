@@ -943,19 +943,15 @@ def write(whole):
     # 2. The files move.
     for file, to in places.items():
         (ROOT / to).parent.mkdir(parents=True, exist_ok=True)
-        if (ROOT / to).exists() and to not in places:
+        if (ROOT / to).exists():
             raise Stop(f"{file} would replace {to}")
     for file, to in places.items():
-        git("mv", file, to)
+        (ROOT / file).rename(ROOT / to)
     for part in whole.parts.values():
         for kind in ("src/lib.rt", "specs/Lib.antt", "proofs/Lib.antt"):
             old, to = f"crates/{part.name}/{kind}", f"crates/{part.room.name}/{kind}"
             if part.name != part.room.name and (ROOT / old).exists():
-                if (ROOT / to).exists():
-                    git("rm", "-q", "-f", old)
-                else:
-                    (ROOT / to).parent.mkdir(parents=True, exist_ok=True)
-                    git("mv", old, to)
+                (ROOT / old).unlink()
     for file, text in texts.items():
         (ROOT / file).parent.mkdir(parents=True, exist_ok=True)
         (ROOT / file).write_text(text)
