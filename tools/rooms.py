@@ -9,7 +9,8 @@ be had and leaves those out that can't.
 
 A row ROOM makes one crate of its parts. The sources, definitions, proofs, edits and data of the parts move. What a part has in
 its lib.rt besides `mod` and `pub use` goes to the file that `roots` names, and its proofs with it. `moved` gives a file of a part
-another name. A row MOVE takes modules of tests out of one crate into another. TEXTS are pages' lines that can't be made.
+another name. A row MOVE takes modules of tests out of one crate into another, a row
+TAKE files of definitions. TEXTS are pages' lines that can't be made.
 
 It stops where two parts have a file, a name or an edit in common. It ends with tools/make-lists, with what still names an old
 crate, and with sizes. On a tree where all rows are done it does nothing.
@@ -52,6 +53,15 @@ class Move:
     source: str
     target: str
     modules: tuple[str, ...]
+
+
+@dataclasses.dataclass(frozen=True)
+class Take:
+    """Files of definitions that go to another crate, which is there; it and those that cite them must not make a cycle."""
+
+    source: str
+    target: str
+    files: dict[str, str]  # "Calls/CallNumbers": "CallNumbers", under specs/
 
 
 ROOMS = (
@@ -159,6 +169,21 @@ ROOMS = (
 
 MOVES = (Move("memory_tests", "kernel_tests", ("queues", "loans", "loan_runs", "slots", "small_space")),)
 
+# The number and the words of each system call, out of what all crates share. (A crate `system_calls` of its own, with these files alone,
+# would take: a folder with src/lib.rt, a comment and `#![tactic(auto)]`; its line `system_calls: xk_base` in crates.txt; its name here.)
+TAKES = (
+    Take(
+        "xk_base",
+        "syscall_codec",
+        {
+            "Calls/CallNumbers": "CallNumbers",
+            "Calls/CallWords": "CallWords",
+            "Calls/Flags": "Flags",
+            "Calls/Replies": "ReplyWords",
+        },
+    ),
+)
+
 # Lines of files that no rule makes: file, what stands there, what shall stand there. A row whose first text isn't there is reported,
 # unless the second is.
 PICTURE = "docs/architecture.md"
@@ -205,6 +230,17 @@ TEXTS = (
         "        kernel_tests            xk_kernel, thread_table, process_table, server_table, irq_claims, msg_queue,\n"
         "                                loan_flags, swap_map, graph_search\n",
     ),
+    (
+        PICTURE,
+        "`xk_base`: number and words (`CallNumbers`, `CallWords`). `syscall_codec`: `Call`, both directions.",
+        "`syscall_codec`: number and words (`CallNumbers`, `CallWords`), `Call`, both directions.",
+    ),
+    (
+        "crates/syscall_codec/src/lib.rt",
+        "//! System calls and their replies as eight words, in registers a0 to a7, and back.\n",
+        "//! System calls and their replies as eight words, in registers a0 to a7, and back: the number of each call, what its words are, and\n"
+        "//! which call eight words ask for.\n",
+    ),
     # What the moved tests expect.
     (
         "crates/kernel_tests/src/expecting.rt",
@@ -239,6 +275,7 @@ TEXTS = (
 LIMIT_FUNCTIONS, LIMIT_LINES = 100, 2500
 COLUMNS = 138  # of a comment
 PAGE_COLUMNS = 120
+WIDTH = 140  # of a line of imports
 
 
 # ---------------------------------------------------------------- reading crates
@@ -459,6 +496,7 @@ class Plan:
     rooms: list
     parts: dict
     moves: list
+    takes: list
     used: dict
     order: list
     before: dict
@@ -477,7 +515,11 @@ def merged_uses(rooms, before, moves=()):
         at[to] = max(at.get(to, 0), place)
     for move, cited in moves:
         target = new.get(move.target, move.target)
-        used[target] += [each for each in cited if each not in used[target] and each != target]
+        fresh = [each for each in cited if each not in used[target] and each != target]
+        if move.source:
+            used[target] += fresh
+        else:
+            used[target][1:1] = fresh
     names, order, waiting = set(used), [], sorted(used, key=at.get)
     while waiting:
         free = next((name for name in waiting if all(each not in names or each in order for each in used[name])), None)
@@ -600,15 +642,44 @@ def plan(rows, keep_going):
             new = {part: room.name for room in rooms for part in room.parts}
             cited = [new.get(each, each) for each in cited_by(files_of_move(move), before) if each != move.source]
             target = new.get(move.target, move.target)
+            if target not in [room.name for room in rooms]:
+                said.append(f"{target}: modules of {move.source} move there only in the run that makes it")
+                continue
             to = Move(move.source, target, move.modules)
             files = files_of_move(to)
             moves.append((to, {**files, **needed_lemmas(to, files)}, cited))
+    takes = []
+    for take in TAKES:
+        there = [name for name in take.files if (ROOT / "crates" / take.source / "specs" / f"{name}.antt").exists()]
+        if not there:
+            continue
+        wrong = [f"{take.source}: specs/{name}.antt isn't there, but others of its row are" for name in take.files if name not in there]
+        if take.target not in before or any(take.target in room.parts for room in rooms):
+            wrong.append(f"{take.target} isn't there, or is renamed by a row: mend the row")
+        for name, to in take.files.items():
+            if (ROOT / "crates" / take.target / "specs" / f"{to}.antt").exists():
+                wrong.append(f"{take.target} has specs/{to}.antt already: give {name} another name")
+        said += wrong
+        if not wrong:
+            takes.append(take)
     if said:
         print("\n".join(said))
         if not keep_going:
             raise Stop("nothing is written: mend the table, or give --keep-going")
-    used, order = merged_uses(rooms, before, [(move, cited) for move, _, cited in moves])
-    return Plan(rooms, parts, moves, used, order, before)
+    added = [(move, cited) for move, _, cited in moves]
+    for take in takes:
+        cite = re.compile("|".join(rf"Rattle\.{take.source}\.specs\.{name.replace('/', '.')}\b" for name in take.files))
+        new = {part: room.name for room in rooms for part in room.parts}
+        for name in before:
+            if name not in (take.source, take.target) and any(cite.search(path.read_text()) for path in sources_of(name)):
+                added.append((Move("", new.get(name, name), ()), [take.target]))
+    used, order = merged_uses(rooms, before, added)
+    return Plan(rooms, parts, moves, takes, used, order, before)
+
+
+def sources_of(crate):
+    folder = ROOT / "crates" / crate
+    return [path for kind in ("src", "specs", "proofs") for path in (folder / kind).rglob("*") if path.suffix in (".rt", ".antt")]
 
 
 # ---------------------------------------------------------------- rewriting
@@ -626,6 +697,10 @@ class Rewriter:
         self.plan = whole
         self.parts = whole.parts
         self.new = {part: room.name for room in whole.rooms for part in room.parts}
+        self.taken = {}  # (source, path of a definition's file) -> target and path there
+        for take in whole.takes:
+            for name, to in take.files.items():
+                self.taken[take.source, tuple(name.split("/"))] = (take.target, to.split("/"))
         self.moved = {}  # (source, module) -> target
         for move, _, _ in whole.moves:
             self.moved.update({(move.source, module): move.target for module in move.modules})
@@ -636,6 +711,10 @@ class Rewriter:
         def path(found):
             crate, kind = found[1], found[2]
             names = found[3].split(".")[1:]
+            for size in range(1, len(names) + 1 if kind == "specs" else 0):
+                if (crate, tuple(names[:size])) in self.taken:
+                    target, to = self.taken[crate, tuple(names[:size])]
+                    return ".".join(["Rattle", self.new.get(target, target), kind, *to, *names[size:]])
             at = names[1] if kind == "specs" and names[:1] == ["declared"] and len(names) > 1 else names[0] if names else ""
             if (crate, at) in self.moved:
                 return ".".join(["Rattle", self.moved[crate, at], kind, *names])
@@ -888,6 +967,11 @@ def write(whole):
     # 1. Where each file goes, and what it says there.
     sources = git("ls-files", "crates").split("\n")[:-1]
     moving = {file: to for _, files, _ in whole.moves for file, to in files.items()}
+    for take in whole.takes:
+        for name, to in take.files.items():
+            moving[f"crates/{take.source}/specs/{name}.antt"] = f"crates/{take.target}/specs/{to}.antt"
+            declare(texts, take.source, name, False)
+            declare(texts, take.target, to, True)
     for file in sources:
         crate = file.split("/")[1]
         part = whole.parts.get(crate)
@@ -899,7 +983,9 @@ def write(whole):
         suffix = pathlib.PurePosixPath(file).suffix
         if suffix not in (".rt", ".antt", ".edit"):
             continue
-        text = made = (ROOT / file).read_text()
+        text = made = texts.pop(file, None) or (ROOT / file).read_text()
+        if text != (ROOT / file).read_text():
+            texts[to] = text
         if suffix == ".edit":
             made = rewriter.edit(text, part or Bare(crate))
         else:
@@ -911,7 +997,7 @@ def write(whole):
                 if part:
                     made = re.sub(r"^-- src/([\w/]+)\.rt$", lambda found: "-- " + rewriter.file_of_edit(part, f"src/{found[1]}.rt", None), made, flags=re.M)
         if made != text:
-            texts[to] = made
+            texts[to] = narrow(made, text)
     for room in whole.rooms:
         parts = [whole.parts[name] for name in room.parts]
         extra = {}
@@ -1049,6 +1135,43 @@ def needed_lemmas(move, files):
     return found
 
 
+def declare(texts, crate, name, is_there):
+    """The line `pub mod` of a file of definitions is added or taken away in the file above it."""
+    *above, stem = name.split("/")
+    file = f"crates/{crate}/specs/{'/'.join(above) if above else 'Lib'}.antt"
+    lines = (texts.get(file) or (ROOT / file).read_text()).splitlines()
+    heads = [line for line in lines if not line.startswith("pub mod ")]
+    mods = {line for line in lines if line.startswith("pub mod ") and line != f"pub mod {stem}"} | ({f"pub mod {stem}"} if is_there else set())
+    texts[file] = "".join(line + "\n" for line in [*heads, *sorted(mods)])
+
+
+USES = re.compile(r"^([ \t]*(?:ghost )?use Rattle\.[\w.]+\.)\{([^}\n]*)\}(;?)$", re.M)
+
+
+def narrow(made, text):
+    """Lines of imports that became too long are two."""
+    before = {len(line) for line in text.splitlines() if "use Rattle." in line}
+    most = max([WIDTH, *before])
+
+    def lines(found):
+        if len(found[0]) <= WIDTH or len(found[0]) <= most and found[0] in text:
+            return found[0]
+        head, end = found[1], found[3]
+        names, row, out = split_names(found[2]), [], []
+        for name in names:
+            if row and len(head) + len(", ".join([*row, name])) + 2 + len(end) > WIDTH:
+                out.append(row)
+                row = []
+            row.append(name)
+        return "\n".join(f"{head}{{{', '.join(each)}}}{end}" for each in [*out, row])
+
+    return USES.sub(lines, made)
+
+
+def split_names(text):
+    return [name.strip() for name in text.split(",")]
+
+
 def lemmas_in(move, files):
     """The lemma files among those that move."""
     paths = map(pathlib.PurePosixPath, files)
@@ -1128,13 +1251,15 @@ def main():
             raise Stop("the checkout isn't clean: commit or stash first")
         rows = [room for room in ROOMS if not options.names or room.name in options.names]
         whole = plan(rows, options.keep_going)
-        if not whole.rooms and not whole.moves:
+        if not whole.rooms and not whole.moves and not whole.takes:
             print("all rows are done")
             return 0
         for room in whole.rooms:
             print(f"{room.name} <- {', '.join(room.parts)}")
         for move, files, _ in whole.moves:
             print(f"{move.target} <- {', '.join(move.modules)} of {move.source}")
+        for take in whole.takes:
+            print(f"{take.target} <- {', '.join(take.files)} of {take.source}")
         print(f"{len(whole.before)} crates -> {len(whole.order)}")
         if options.plan:
             small = sizes(whole.before)
