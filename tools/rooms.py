@@ -367,9 +367,8 @@ def grouped(paths, head="use ", width=100):
 
 
 def rust_order(name):
-    """As rustfmt sorts names: snake case after types."""
-    kind = 0 if name[0].isupper() and not name.isupper() else 1 if name.isupper() else 2
-    return (kind, name)
+    """As rustfmt sorts names: capitals first, and an underscore before any letter."""
+    return name.replace("_", " ")
 
 
 BLOCK = re.compile(r"(?:^[ \t]*use [^;]+;\n)+", re.M)
@@ -390,7 +389,7 @@ def use_order(line):
     words = path.split("::")
     near = ("self", "super", "crate")
     first = near.index(words[0]) if words[0] in near else len(near)
-    return [(first, rust_order(words[0])), *((0, (3, "") if word.startswith("{") else rust_order(word.rstrip(";"))) for word in words[1:])]
+    return [(first, rust_order(words[0])), *((0, "~" if word.startswith("{") else rust_order(word.rstrip(";"))) for word in words[1:])]
 
 
 class Part:
