@@ -244,6 +244,14 @@ TEXTS = (
         "//! System calls and their replies as eight words, in registers a0 to a7, and back: the number of each call, what its words are, and\n"
         "//! which call eight words ask for.\n",
     ),
+    (
+        "crates/xk_kernel/src/lib.rt",
+        "//! The kernel: it boots a plan, takes events and does the steps of the abstract machine, over pages in a modelled RAM. The\n"
+        "//! definitions stand in `specs/`; the functions of `starts` and `trust` are laws of them: each function's contract is the law, and\n"
+        "//! its body is empty.\n",
+        "//! The kernel: it boots a plan, takes events and does the steps of the abstract machine, over pages in a modelled RAM. The\n"
+        "//! definitions stand in `specs/`.\n",
+    ),
     # What the moved tests expect.
     (
         "crates/kernel_tests/src/expecting.rt",
