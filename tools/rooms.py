@@ -491,6 +491,16 @@ class Part:
         return "/".join(("crates", self.room.name, kind, *rest))
 
 
+def read(path):
+    """The text of a file as it is before anything is written; each file is read once."""
+    if path not in READ:
+        READ[path] = path.read_text()
+    return READ[path]
+
+
+READ = {}
+
+
 def git(*words, check=True):
     done = subprocess.run(["git", "-C", str(ROOT), *words], capture_output=True, text=True, check=False)
     if check and done.returncode:
@@ -603,7 +613,7 @@ def clashes(room, parts):
 
 def cited_by(files, before):
     """The crates and libraries that these files name."""
-    text = "\n".join((ROOT / file).read_text() for file in files)
+    text = "\n".join(read(ROOT / file) for file in files)
     known = {name for name in before} | {each for uses in before.values() for each in uses}
     names = set(re.findall(r"Rattle\.(\w+)\.", text)) | set(re.findall(r"(?<![\w:])(\w+)::", text))
     return [name for name in known if name in names]
@@ -683,7 +693,7 @@ def plan(rows, keep_going):
         cite = re.compile("|".join(rf"Rattle\.{take.source}\.specs\.{name.replace('/', '.')}\b" for name in take.files))
         new = {part: room.name for room in rooms for part in room.parts}
         for name in before:
-            if name not in (take.source, take.target) and any(cite.search(path.read_text()) for path in sources_of(name)):
+            if name not in (take.source, take.target) and any(cite.search(read(path)) for path in sources_of(name)):
                 added.append((Move("", new.get(name, name), ()), [take.target]))
     used, order = merged_uses(rooms, before, added)
     return Plan(rooms, parts, moves, takes, used, order, before)
@@ -938,9 +948,9 @@ def ambiguous(names):
     found = set()
     word = re.compile(r"(?<![\w.:])(" + "|".join(map(re.escape, names)) + r")(?![\w:]|\.specs|\.proofs)")
     for path in [*ROOT.glob("crates/*/src/**/*.rt"), *ROOT.glob("crates/*/specs/**/*.antt")]:
-        for line in path.read_text().splitlines():
-            if not line.lstrip().startswith(("//", "--")):
-                found.update(word.findall(line))
+        if word.search(read(path)):
+            code = (line for line in read(path).splitlines() if not line.lstrip().startswith(("//", "--")))
+            found.update(each for line in code for each in word.findall(line))
     return found
 
 
@@ -995,8 +1005,8 @@ def write(whole):
         suffix = pathlib.PurePosixPath(file).suffix
         if suffix not in (".rt", ".antt", ".edit"):
             continue
-        text = made = texts.pop(file, None) or (ROOT / file).read_text()
-        if text != (ROOT / file).read_text():
+        text = made = texts.pop(file, None) or read(ROOT / file)
+        if text != read(ROOT / file):
             texts[to] = text
         if suffix == ".edit":
             made = rewriter.edit(text, part or Bare(crate))
@@ -1147,7 +1157,9 @@ def needed_lemmas(move, files):
             continue
         cite = re.compile(rf"(?:Rattle\.{move.source}\.proofs\.|crate::proofs::){path.stem}\b")
         others = [file for file in git("ls-files", f"crates/{move.source}").split("\n")[:-1] if file.endswith((".rt", ".antt")) and not file.endswith(f"/{path.name}")]
-        citing = [file for file in others if cite.search((ROOT / file).read_text())]
+        citing = [file for file in others if cite.search(read(ROOT / file))]
+        if (proofs / path.stem).is_dir() or re.search(rf"^pub mod {path.stem}$", read(proofs / "Lib.antt"), re.M) and not all(file in files for file in citing):
+            continue  # others can name it where it is
         if citing and all(file in files for file in citing):
             found[f"crates/{move.source}/proofs/{path.name}"] = f"crates/{move.target}/proofs/{path.name}"
         elif any(file in files for file in citing):
