@@ -1,7 +1,7 @@
 #!/usr/bin/python3
 """Joins and renames crates by the rules of the tables below, on a clean checkout.
 
-    tools/rooms.py [--root ROOT] [--plan] [--fmt] [--keep-going] [--no-lists] [NAME..]
+    tools/rooms.py [--root ROOT] [--plan] [--fmt] [--keep-going] [--no-lists] [--no-takes] [NAME..]
 
 --plan says what would be done and writes nothing: cycles, names that clash, and the sizes of the crates that come of it.
 NAME does only the rows of these new crates. --fmt runs `rt fmt` in each crate that changed. --keep-going writes the rows that can
@@ -632,7 +632,7 @@ def files_of_move(move):
     return found
 
 
-def plan(rows, keep_going):
+def plan(rows, keep_going, all_takes=TAKES):
     before = crates_of()
     rooms, parts, said = [], {}, []
     for room in rows:
@@ -671,7 +671,7 @@ def plan(rows, keep_going):
             files = files_of_move(to)
             moves.append((to, {**files, **needed_lemmas(to, files)}, cited))
     takes = []
-    for take in TAKES:
+    for take in all_takes:
         there = [name for name in take.files if (ROOT / "crates" / take.source / "specs" / f"{name}.antt").exists()]
         if not there:
             continue
@@ -1276,6 +1276,7 @@ def main():
     parser.add_argument("--plan", action="store_true")
     parser.add_argument("--fmt", action="store_true")
     parser.add_argument("--keep-going", action="store_true")
+    parser.add_argument("--no-takes", action="store_true", help="leave out the rows TAKE, so that xk_base stays as it is")
     parser.add_argument("--no-lists", action="store_true", help="leave out tools/make-lists and tools/check-docs, which take most of the time")
     parser.add_argument("names", nargs="*")
     options = parser.parse_args()
@@ -1283,7 +1284,7 @@ def main():
         if not options.plan and git("status", "--porcelain", "--untracked-files=no"):
             raise Stop("the checkout isn't clean: commit or stash first")
         rows = [room for room in ROOMS if not options.names or room.name in options.names]
-        whole = plan(rows, options.keep_going)
+        whole = plan(rows, options.keep_going, () if options.no_takes else TAKES)
         if not whole.rooms and not whole.moves and not whole.takes:
             print("all rows are done")
             return 0
