@@ -234,17 +234,6 @@ TEXTS = (
         "                                loan_flags, swap_map, graph_search\n",
     ),
     (
-        PICTURE,
-        "`xk_base`: number and words (`CallNumbers`, `CallWords`). `syscall_codec`: `Call`, both directions.",
-        "`syscall_codec`: number and words (`CallNumbers`, `CallWords`), `Call`, both directions.",
-    ),
-    (
-        "crates/syscall_codec/src/lib.rt",
-        "//! System calls and their replies as eight words, in registers a0 to a7, and back.\n",
-        "//! System calls and their replies as eight words, in registers a0 to a7, and back: the number of each call, what its words are, and\n"
-        "//! which call eight words ask for.\n",
-    ),
-    (
         "crates/xk_kernel/src/lib.rt",
         "//! The kernel: it boots a plan, takes events and does the steps of the abstract machine, over pages in a modelled RAM. The\n"
         "//! definitions stand in `specs/`; the functions of `starts` and `trust` are laws of them: each function's contract is the law, and\n"
@@ -282,7 +271,21 @@ TEXTS = (
     ),
 )
 
-# Names of crates that files name in another sense too: only paths and the rows above change these in text.
+# The same for the rows TAKE.
+TAKE_TEXTS = (
+    (
+        PICTURE,
+        "`xk_base`: number and words (`CallNumbers`, `CallWords`). `syscall_codec`: `Call`, both directions.",
+        "`syscall_codec`: number and words (`CallNumbers`, `CallWords`), `Call`, both directions.",
+    ),
+    (
+        "crates/syscall_codec/src/lib.rt",
+        "//! System calls and their replies as eight words, in registers a0 to a7, and back.\n",
+        "//! System calls and their replies as eight words, in registers a0 to a7, and back: the number of each call, what its words are, and\n"
+        "//! which call eight words ask for.\n",
+    ),
+)
+
 LIMIT_FUNCTIONS, LIMIT_LINES = 100, 2500
 COLUMNS = 138  # of a comment
 PAGE_COLUMNS = 120
@@ -774,7 +777,10 @@ class Rewriter:
             if any(path[0] in part.modules for path, _ in tree(rest)):
                 lines = [((part.room.name, *part.item(list(path))), alias) for path, alias in tree(rest)]
                 return "".join(indent + line + "\n" for line in grouped(lines, word).splitlines())
-            return found[0].replace(f"use {name}::", f"use {part.room.name}::", 1)
+            made = found[0].replace(f"use {name}::", f"use {part.room.name}::", 1)
+            if made.count("\n") == 1 and len(made) > 101:
+                made = grouped([((part.room.name, *path), alias) for path, alias in tree(rest)], indent + word)
+            return made
 
         def inline(found):
             name, names = found[1], found[2].split("::")[1:]
@@ -1085,7 +1091,7 @@ def write(whole):
     (ROOT / "crates.txt").write_text("\n".join([*head, *(f"{name}: {' '.join(whole.used[name])}".rstrip() for name in whole.order)]) + "\n")
     # 4. Pages and tools.
     missing = []
-    for file, old, text in TEXTS:
+    for file, old, text in (*TEXTS, *(TAKE_TEXTS if whole.takes else ())):
         path = ROOT / file
         said = path.read_text() if path.exists() else ""
         if old in said:
