@@ -34,14 +34,14 @@ def rfile(c,names):
     return 'crates/%s/src/lib.rt'%c,names
 def has(p,n):
     t=T(p) or ''
-    return re.search(r'\b(?:fn|struct|enum|trait|type|const|mod) '+re.escape(n)+r'\b',t) or re.search(r'^pub use [^;]*\b'+re.escape(n)+r'\b',t,re.M)
+    return re.search(r'\b(?:fn|struct|enum|trait|type|const|static|mod) '+re.escape(n)+r'\b',t) or re.search(r'^pub use [^;]*\b'+re.escape(n)+r'\b',t,re.M)
 fns={}
 def has_fn(c,name):
     if c not in fns:
         fns[c]=set()
         for d,ds,fs in os.walk(R+'crates/'+c+'/src'):
             for f in fs: fns[c]|=set(re.findall(r'\bfn (\w+)',T(os.path.join(d,f)[len(R):]) or ''))
-    return name.lstrip('+') in fns[c]
+    return name.lstrip('+') in fns[c] or name=='TheImpl'
 def check(frm,c,m):
     tc,k,names,items=m[1],m[2],m[3].split('.')[1:],m[4]
     if tc!=c and tc not in deps[c]: bad.add((frm,m[0][:90],'not in crates.txt of '+c))
@@ -84,7 +84,7 @@ for c in deps:
                             a='crates/%s/proofs/%s.antt'%(c,'/'.join(names[:n]) if n else 'Lib')
                             if not re.search('mod '+re.escape(names[n])+r'$',T(a) or '',re.M): bad.add((p,'','not declared in '+a))
                 if c in NEW and f.endswith('.rt'):
-                    base=os.path.dirname(p) if f in('lib.rt',) else p[:-3]
+                    base=os.path.dirname(p) if f in('lib.rt','main.rt') else p[:-3]
                     for m in re.findall(r'^(?:pub(?:\([a-z]+\))? )?mod (\w+);',t,re.M):
                         if not os.path.isfile(R+base+'/'+m+'.rt'): bad.add((p,'mod '+m,'no file'))
                     for a in re.finditer(r'crate::(specs|proofs)((?:::\w+)*)::([\w\'-]+)',t):
