@@ -884,6 +884,7 @@ def joined_lib(room, parts, rewriter, extra):
             if handed:
                 own = grouped([(("crate", *part.renamed("src", path[:-1]), path[-1]), "") for path in handed])
                 text = after_ghosts(text, own)
+            text = re.sub(r"\n{3,}", "\n\n", text)
             files[f"crates/{room.name}/src/{part.root}.rt"] = rewriter.in_rust(rewriter.antt(part.comment + "\n" + text), part.name)
         else:
             rest += "\n" + rewriter.in_rust(rewriter.antt(text), part.name)
