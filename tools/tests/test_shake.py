@@ -16,7 +16,7 @@ from xous.shaking.outcomes import USUAL_SEE, failures, rules_of
 from xous.shaking.playing import Player
 
 from .builders import image_of, process
-from .frame import EXAMPLES, ROOT, TOOLS, Case, need, need_program, need_searcher
+from .frame import EXAMPLES, ROOT, TOOLS, Case, heed_interrupts, need, need_program, need_searcher
 from .test_orders import FEW, given_of, stored
 
 STAND_IN = TOOLS / "tests" / "lost_machine.py"
@@ -136,12 +136,13 @@ class StandIn(Shaken):
         folder = self.folder / "made"
         words = [sys.executable, TOOLS / "xous-shake", self.image, "--steps", "1000", "--seconds", "600", "--write", folder, "--json", self.folder / "found.json"]
         env = {**os.environ, "XOUSIM": str(STAND_IN)}
-        with subprocess.Popen(words, stdout=subprocess.PIPE, stderr=subprocess.PIPE, text=True, env=env, start_new_session=True) as started:
+        pipes = {"stdout": subprocess.PIPE, "stderr": subprocess.PIPE, "text": True}
+        with subprocess.Popen(words, **pipes, env=env, start_new_session=True, preexec_fn=heed_interrupts) as started:
             first = started.stdout.readline()
             time.sleep(2)
             os.killpg(started.pid, signal.SIGINT)
-            told, said = started.communicate(timeout=60)
-            self.assertEqual((started.returncode, said), (130, "xous-shake: interrupted\n"))
+            told, said = started.stdout.read(), started.stderr.read()  # not by communicate, which misses what was read ahead
+            self.assertEqual((started.wait(60), said), (130, "xous-shake: interrupted\n"))
             self.assertTrue(is_gone(started.pid))
         told = first + told
         self.assertRegex(told.splitlines()[0], "^ending 1: ")
