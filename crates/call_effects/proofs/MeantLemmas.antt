@@ -9,9 +9,9 @@ use Rattle.xk_base.specs.declared.ids.Serial.{Serial}
 use Rattle.xk_base.specs.declared.errors.XousError.TheVariants.{ServerQueueFull}
 use Rattle.xk_base.specs.declared.ids.ThreadId.{ThreadId}
 use Rattle.xk_base.specs.declared.ids.Vpn.{Vpn}
-use Rattle.xk_base.specs.Calls.CallWords.{call_number, forward_cid, send_address}
+use Rattle.syscall_codec.specs.CallWords.{call_number, forward_cid, send_address}
 use Rattle.xk_base.specs.Calls.Kinds.{is_answered}
-use Rattle.xk_base.specs.Calls.Replies.{plain_words}
+use Rattle.syscall_codec.specs.ReplyWords.{plain_words}
 use Rattle.xk_base.specs.Tables.Sids.{serial_of}
 use Rattle.ledger_model.specs.Steps.{pass}
 use Rattle.machine_model.specs.State.Changes.{Call, Change, Outcome, Served, answering, unless_refused, unless_retried}

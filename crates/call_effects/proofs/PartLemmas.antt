@@ -1,6 +1,6 @@
 -- A law about some parts of the machine has to be shown of the calls that can change one of them alone.
 use Rattle.std.proofs.Common.{◌≡◌, ℕ, Bool, true, false, List, refl, sym, subst}
-use Rattle.xk_base.specs.Calls.CallWords.{call_number}
+use Rattle.syscall_codec.specs.CallWords.{call_number}
 use Rattle.machine_model.specs.Calling.Calls.{call}
 use Rattle.machine_model.specs.State.Changes.{Change, Outcome, Refused, Retried, Served}
 use Rattle.machine_model.specs.State.Machine.{Machine}

@@ -2,12 +2,12 @@
 -- effects.
 use Rattle.std.specs.Prelude.{◌≡◌, ℕ, Bool, false, ◌==◌, List, [], ◌∷◌, if◌then◌else◌}
 use Rattle.std.specs.List.{list_all, list_any}
-use Rattle.xk_base.specs.Calls.CallNumbers.{map_memory, yield_turn, claim_interrupt, free_interrupt, increase_heap, decrease_heap}
-use Rattle.xk_base.specs.Calls.CallNumbers.{update_memory_flags, create_server_with_address, receive_message, send_message, connect}
-use Rattle.xk_base.specs.Calls.CallNumbers.{create_thread, unmap_memory, return_memory, terminate_process, try_send_message, try_connect}
-use Rattle.xk_base.specs.Calls.CallNumbers.{return_scalar1, return_scalar2, try_receive_message, join_thread, destroy_server, get_thread_id}
-use Rattle.xk_base.specs.Calls.CallNumbers.{get_process_id, forward_message}
-use Rattle.xk_base.specs.Calls.CallWords.{call_number}
+use Rattle.syscall_codec.specs.CallNumbers.{map_memory, yield_turn, claim_interrupt, free_interrupt, increase_heap, decrease_heap}
+use Rattle.syscall_codec.specs.CallNumbers.{update_memory_flags, create_server_with_address, receive_message, send_message, connect}
+use Rattle.syscall_codec.specs.CallNumbers.{create_thread, unmap_memory, return_memory, terminate_process, try_send_message, try_connect}
+use Rattle.syscall_codec.specs.CallNumbers.{return_scalar1, return_scalar2, try_receive_message, join_thread, destroy_server, get_thread_id}
+use Rattle.syscall_codec.specs.CallNumbers.{get_process_id, forward_message}
+use Rattle.syscall_codec.specs.CallWords.{call_number}
 use Rattle.machine_model.specs.Calling.Calls.{call}
 use Rattle.machine_model.specs.State.Changes.{Change, Served}
 use Rattle.machine_model.specs.State.Machine.{Machine}

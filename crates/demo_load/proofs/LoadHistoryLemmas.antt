@@ -17,13 +17,13 @@ use Rattle.xk_base.specs.Tables.Circle.{thread_ids}
 use Rattle.xk_base.specs.declared.ids.ThreadId.{ThreadId}
 use Rattle.xk_base.specs.declared.records.What.{What}
 use Rattle.xk_base.specs.declared.records.What.TheVariants.{Irq}
-use Rattle.machine_history.specs.History.{History, behind, history, play, reached, stopped, ticks}
+use Rattle.machine_laws.specs.History.{History, behind, history, play, reached, stopped, ticks}
 use Rattle.xk_kernel.proofs.Ringing.FewLemmas.{few_acted}
-use Rattle.machine_history.proofs.Histories.HistoryLemmas.{history_none}
-use Rattle.machine_history.proofs.Histories.LimitLemmas.{step_steps, turn_steps}
+use Rattle.machine_laws.proofs.Histories.HistoryLemmas.{history_none}
+use Rattle.machine_laws.proofs.Histories.LimitLemmas.{step_steps, turn_steps}
 use Rattle.xk_base.specs.declared.limits.TheConstants.{DEFAULT_STEPS}
 use Rattle.xk_kernel.specs.Start.{start}
-use Rattle.machine_history.specs.HistoryMoments.{event_moments, moments_of}
+use Rattle.machine_laws.specs.HistoryMoments.{event_moments, moments_of}
 use Rattle.event_player.specs.Rooms.{ComesFull, Room}
 use Rattle.event_player.proofs.Playing.FullLemmas.{events_full_front, events_full_later, first_event_full}
 use Rattle.demo_load.specs.Events.{first_events, load_history, load_machine, tick_at}

@@ -7,7 +7,7 @@ use Rattle.machine_model.specs.Stepping.Step.{step}
 use Rattle.sv32_space.specs.Tie.{Held}
 use Rattle.vm_memory.specs.Memory.{processes}
 use Rattle.xk_base.specs.declared.records.Rec.{Rec}
-use Rattle.machine_history.specs.History.{History, behind, reached}
+use Rattle.machine_laws.specs.History.{History, behind, reached}
 use Rattle.xk_kernel.specs.Sound.{IsSound}
 use Rattle.xk_kernel.specs.State.{machine_of}
 use Rattle.xk_kernel.specs.declared.kernel.Kernel.{Kernel}

@@ -7,7 +7,7 @@ use Rattle.xk_base.specs.declared.events.Event.{Event}
 use Rattle.xk_base.specs.declared.events.Event.TheVariants.{Tick}
 use Rattle.machine_model.specs.State.Machine.{Machine}
 use Rattle.xk_base.specs.declared.limits.TheConstants.{DEFAULT_STEPS}
-use Rattle.machine_history.specs.History.{History, history}
+use Rattle.machine_laws.specs.History.{History, history}
 use Rattle.xk_kernel.specs.Start.{start}
 use Rattle.demo_load.specs.Image.{load_args, load_image}
 

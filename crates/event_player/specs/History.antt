@@ -5,7 +5,7 @@ use Rattle.xk_base.specs.declared.records.Rec.{Rec}
 use Rattle.machine_model.specs.State.Machine.{Machine}
 use Rattle.event_player.specs.declared.ending.Ending.{Ending}
 use Rattle.event_player.specs.declared.ending.Ending.TheVariants.{Played, LimitMet, BadLine}
-use Rattle.machine_history.specs.History as kernel
+use Rattle.machine_laws.specs.History as kernel
 
 -- the records in order, the last state, and why it ended there
 pub record History : Type 0 where

@@ -7,8 +7,8 @@ use Rattle.event_text.specs.Plays.{Call, play_of}
 use Rattle.xk_base.specs.declared.events.Event.{Event}
 use Rattle.xk_base.specs.declared.events.Event.TheVariants.{Tick}
 use Rattle.machine_model.specs.State.Machine.{Machine}
-use Rattle.machine_history.specs.History.{history, play}
-use Rattle.machine_history.specs.HistoryMoments.{event_moments, moments_of}
+use Rattle.machine_laws.specs.History.{history, play}
+use Rattle.machine_laws.specs.HistoryMoments.{event_moments, moments_of}
 use Rattle.xk_ports.specs.Told.{GrowsByProperPrefix, Consumes}
 use Rattle.event_player.specs.declared.telling.Telling.{Telling}
 use Rattle.event_player.specs.declared.ending.Ending.{Ending}

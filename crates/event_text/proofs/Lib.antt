@@ -1,5 +1,7 @@
 pub mod HeldLemmas
 pub mod JoinedLemmas
 pub mod LineLemmas
+mod NumberLemmas
 pub mod PlayLemmas
 pub mod WholeLemmas
+mod WrittenLineLemmas

@@ -1,5 +1,6 @@
-pub mod Joined
-pub mod Lines
 pub mod EventFile
 pub mod Held
+pub mod Joined
+pub mod Lines
 pub mod Plays
+pub mod Spelling

@@ -1,4 +1,4 @@
-//! The events of an event file, read from pieces of its bytes. The reader takes no memory.
+//! The events of an event file, read from pieces of its bytes, and written as its lines. The reader takes no memory.
 #![tactic(auto)]
 
 mod event;
@@ -7,6 +7,7 @@ mod line;
 mod numbers;
 mod reader;
 mod words;
+mod writing;
 
 pub use event::NextEvent;
 pub use laws::{
@@ -15,4 +16,5 @@ pub use laws::{
 };
 pub use numbers::read_digits;
 pub use reader::EventReader;
+pub use writing::{event_file, lines_are_read};
 pub use xk_base::Event;

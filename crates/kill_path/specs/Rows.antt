@@ -6,7 +6,7 @@ use Rattle.machine_model.specs.State.Machine.{Machine}
 use Rattle.machine_model.specs.State.Threads.{answer_to, both_answers}
 use Rattle.send_path.specs.Rows.{IsRow}
 use Rattle.sv32_space.specs.Tie.{Held}
-use Rattle.xk_base.specs.Calls.Replies.{plain_words}
+use Rattle.syscall_codec.specs.ReplyWords.{plain_words}
 use Rattle.xk_base.specs.declared.ids.Serial.{Serial}
 use Rattle.xk_base.specs.declared.ids.ThreadId.{ThreadId}
 use Rattle.xk_parts.specs.Parts.{Parts}

@@ -3,7 +3,7 @@ use Rattle.std.specs.Prelude.{Bool, false, ◌&&◌, ◌==◌, List, ℕ, Option
 use Rattle.std.specs.Option.{option_map_or}
 use Rattle.machine_model.specs.State.Threads.{Answers}
 use Rattle.thread_table.specs.ThreadMap.{ThreadMap, is_receiving}
-use Rattle.xk_base.specs.Calls.Replies.{plain_words, refused_words}
+use Rattle.syscall_codec.specs.ReplyWords.{plain_words, refused_words}
 use Rattle.xk_base.specs.Tables.Circle.{is_tid, same_thread}
 use Rattle.xk_base.specs.declared.errors.XousError.TheVariants.{ServerNotFound}
 use Rattle.xk_base.specs.declared.ids.Pid.{Pid}

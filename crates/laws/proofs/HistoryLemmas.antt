@@ -9,20 +9,20 @@ use Rattle.machine_model.specs.Runs.Moments.{Moment, state_at}
 use Rattle.machine_model.specs.Runs.Reserving.{IsSucceeding}
 use Rattle.machine_model.specs.State.Machine.{Machine, Reservation}
 use Rattle.machine_laws.proofs.Stepping.EveryStepLemmas.{every_cause_keeps}
-use Rattle.isolation_laws.specs.Differences.{OnlyMovesDifferences}
-use Rattle.isolation_laws.proofs.Spreading.RunLemmas.{run_moves}
-use Rattle.span_laws.proofs.Fates.CauseFateLemmas.{all_have_fates}
-use Rattle.span_laws.proofs.Spans.RunSpanLemmas.{spans_hold}
-use Rattle.timer_laws.specs.TimerLaw.{TimerLaw}
-use Rattle.timer_laws.proofs.Runs.RunLemmas.{timer_holds}
-use Rattle.irq_laws.specs.Delivering.{deliveries, once_if, raises}
-use Rattle.irq_laws.proofs.RunLemmas.{delivered_at_most_once}
-use Rattle.machine_history.specs.History.{history}
-use Rattle.machine_history.specs.HistoryMoments.{moments_of}
-use Rattle.isolation_laws.specs.TwoHistories.{StartSideBySide}
-use Rattle.machine_history.proofs.Histories.MomentLemmas.{history_is_run, history_last}
-use Rattle.isolation_laws.proofs.Histories.RecordLemmas.{history_tells}
-use Rattle.isolation_laws.proofs.Histories.SideBySideLemmas.{side_by_side}
+use Rattle.confidentiality_laws.specs.Differences.{OnlyMovesDifferences}
+use Rattle.confidentiality_laws.proofs.Spreading.RunLemmas.{run_moves}
+use Rattle.loan_laws.proofs.Fates.CauseFateLemmas.{all_have_fates}
+use Rattle.loan_laws.proofs.Spans.RunSpanLemmas.{spans_hold}
+use Rattle.interrupt_laws.specs.TimerLaw.{TimerLaw}
+use Rattle.interrupt_laws.proofs.Runs.RunLemmas.{timer_holds}
+use Rattle.interrupt_laws.specs.Delivering.{deliveries, once_if, raises}
+use Rattle.interrupt_laws.proofs.RunLemmas.{delivered_at_most_once}
+use Rattle.machine_laws.specs.History.{history}
+use Rattle.machine_laws.specs.HistoryMoments.{moments_of}
+use Rattle.confidentiality_laws.specs.TwoHistories.{StartSideBySide}
+use Rattle.machine_laws.proofs.Histories.MomentLemmas.{history_is_run, history_last}
+use Rattle.confidentiality_laws.proofs.Histories.RecordLemmas.{history_tells}
+use Rattle.confidentiality_laws.proofs.Histories.SideBySideLemmas.{side_by_side}
 use Rattle.laws.specs.Standing.{IsReservedBefore}
 use Rattle.laws.proofs.ReservedLemmas.{every_reservation_holds}
 

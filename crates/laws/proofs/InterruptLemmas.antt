@@ -13,16 +13,16 @@ use Rattle.machine_model.specs.State.Threads.{thread_id}
 use Rattle.machine_model.specs.Stepping.Interrupts.{is_free_for_interrupt, is_idle}
 use Rattle.machine_model.proofs.State.StartLemmas.{start_matched}
 use Rattle.machine_laws.proofs.Stepping.EveryStepLemmas.{every_run_keeps}
-use Rattle.machine_history.specs.History.{history}
-use Rattle.machine_history.specs.HistoryMoments.{moments_of}
-use Rattle.machine_history.proofs.Histories.MomentLemmas.{history_is_run, history_last}
-use Rattle.isolation_laws.proofs.Histories.RecordLemmas.{history_tells}
-use Rattle.record_laws.specs.Stuck.{WaitsFor}
-use Rattle.irq_laws.specs.Balance.{given_up, merges}
-use Rattle.irq_laws.specs.Busy.{PendingMeansBusy}
-use Rattle.irq_laws.specs.Delivering.{deliveries, once_if, raises}
-use Rattle.irq_laws.proofs.BusyRunLemmas.{pending_stays_busy, starts_busy}
-use Rattle.irq_laws.proofs.EvenRunLemmas.{no_interrupt_is_lost}
+use Rattle.machine_laws.specs.History.{history}
+use Rattle.machine_laws.specs.HistoryMoments.{moments_of}
+use Rattle.machine_laws.proofs.Histories.MomentLemmas.{history_is_run, history_last}
+use Rattle.confidentiality_laws.proofs.Histories.RecordLemmas.{history_tells}
+use Rattle.transcript_laws.specs.Stuck.{WaitsFor}
+use Rattle.interrupt_laws.specs.Balance.{given_up, merges}
+use Rattle.interrupt_laws.specs.Busy.{PendingMeansBusy}
+use Rattle.interrupt_laws.specs.Delivering.{deliveries, once_if, raises}
+use Rattle.interrupt_laws.proofs.BusyRunLemmas.{pending_stays_busy, starts_busy}
+use Rattle.interrupt_laws.proofs.EvenRunLemmas.{no_interrupt_is_lost}
 use Rattle.laws.specs.Interrupts.{HistoriesAreBalanced, IdleAtTheEnd, IdleMeansNothingPending, IdleSinceBoot, IdleSinceBusy}
 
 -- ---- the balance

@@ -1,9 +1,9 @@
 -- Every step ends in the timer's raise, or is its other effects.
 use Rattle.std.proofs.Common.{◌≡◌, ◌⊎◌, None, inl, inr}
 use Rattle.machine_model.specs.Runs.Moments.{ByStep, caused}
-use Rattle.timer_laws.specs.Raising.{IsRaise}
-use Rattle.timer_laws.proofs.Runs.MomentLemmas.{effects_of}
-use Rattle.timer_laws.proofs.Runs.RaiseLemmas.{decides, else_nothing, raise_is_event}
+use Rattle.interrupt_laws.specs.Raising.{IsRaise}
+use Rattle.interrupt_laws.proofs.Runs.MomentLemmas.{effects_of}
+use Rattle.interrupt_laws.proofs.Runs.RaiseLemmas.{decides, else_nothing, raise_is_event}
 use Rattle.laws.specs.TimerSteps.{EndsInRaise, EndsWithout, TimerComesLast}
 
 pub timer_comes_last : TimerComesLast

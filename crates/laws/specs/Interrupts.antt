@@ -7,12 +7,12 @@ use Rattle.machine_model.specs.Runs.Matched.{Matched}
 use Rattle.machine_model.specs.Runs.Moments.{state_at}
 use Rattle.machine_model.specs.State.Machine.{Claim, Idle, Machine, Thread}
 use Rattle.machine_model.specs.State.Start.{IsStart}
-use Rattle.machine_history.specs.History.{history}
-use Rattle.machine_history.specs.HistoryMoments.{moments_of}
-use Rattle.record_laws.specs.Stuck.{WaitsFor}
-use Rattle.irq_laws.specs.Balance.{given_up, merges}
-use Rattle.irq_laws.specs.Busy.{PendingMeansBusy}
-use Rattle.irq_laws.specs.Delivering.{deliveries, once_if, raises}
+use Rattle.machine_laws.specs.History.{history}
+use Rattle.machine_laws.specs.HistoryMoments.{moments_of}
+use Rattle.transcript_laws.specs.Stuck.{WaitsFor}
+use Rattle.interrupt_laws.specs.Balance.{given_up, merges}
+use Rattle.interrupt_laws.specs.Busy.{PendingMeansBusy}
+use Rattle.interrupt_laws.specs.Delivering.{deliveries, once_if, raises}
 
 -- ---- the balance
 

@@ -11,7 +11,7 @@ use Rattle.machine_model.specs.State.Machine.{Machine, Ready, Thread}
 use Rattle.machine_model.specs.State.Views.{memory_of}
 use Rattle.machine_model.specs.Stepping.Step.{ends_handler, ends_thread}
 use Rattle.machine_model.specs.Worked.Rows.{id_of, pid_of, small_machine}
-use Rattle.record_laws.specs.Turns.{IsAtRisk, Spins}
+use Rattle.transcript_laws.specs.Turns.{IsAtRisk, Spins}
 
 -- the word of `jal x0, 0`
 abbrev pub jump_to_itself : ℕ

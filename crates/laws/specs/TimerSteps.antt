@@ -5,7 +5,7 @@ use Rattle.machine_model.specs.Runs.Moments.{ByStep}
 use Rattle.machine_model.specs.State.Machine.{Machine}
 use Rattle.machine_model.specs.Stepping.Events.{raised}
 use Rattle.machine_model.specs.Stepping.Step.{step}
-use Rattle.timer_laws.specs.Raising.{IsRaise, other_effects}
+use Rattle.interrupt_laws.specs.Raising.{IsRaise, other_effects}
 
 -- the timer is due: it is disarmed, and its interrupt comes last, as by an event, but for the reservation, which stays
 pub record EndsInRaise (m : Machine) : Type 0 where

@@ -19,20 +19,20 @@ ghost use Rattle.machine_model.specs.State.Machine.{Machine, Reservation};
 ghost use Rattle.machine_model.specs.State.Order.{actor, next_ready, ready_at};
 ghost use Rattle.machine_model.specs.State.Start.{IsStart};
 ghost use Rattle.machine_model.specs.Stepping.Events.{picked};
-ghost use Rattle.isolation_laws.specs.Differences.{DifferencesComeFromTheStart, OnlyMovesDifferences};
-ghost use Rattle.isolation_laws.specs.EmptyPlaces.{CallMovesToEmptyPlaces};
-ghost use Rattle.isolation_laws.specs.TwoRuns.{RunsAreSameButBytes, RunsTellTheSame};
-ghost use Rattle.timer_laws.specs.Raising.{RaiseFindsClaim};
-ghost use Rattle.timer_laws.specs.TimerLaw.{ArmingsAreMoments, TimerHolds, TimerLaw};
-ghost use Rattle.irq_laws.specs.Balance.{NoInterruptIsLost};
-ghost use Rattle.irq_laws.specs.Busy.{PendingStaysBusy, StartsBusy};
-ghost use Rattle.irq_laws.specs.Delivering.{DeliveredAtMostOnce, PendingAreClaimed, deliveries, once_if, raises};
-ghost use Rattle.irq_laws.specs.Starting.{IrqStartsIfFree, IrqStartsOneOrNothing};
-ghost use Rattle.machine_history.specs.History.{behind, history, reached, stopped};
-ghost use Rattle.machine_history.specs.HistoryMoments.{moments_of};
-ghost use Rattle.machine_history.specs.Interleaving.{AreReadyInTurn, picks_and_ticks, steps_in_turn};
-ghost use Rattle.machine_history.specs.Reserved.{IsReservedByThread};
-ghost use Rattle.isolation_laws.specs.TwoHistories.{StartSideBySide, TellTheSame};
+ghost use Rattle.confidentiality_laws.specs.Differences.{DifferencesComeFromTheStart, OnlyMovesDifferences};
+ghost use Rattle.confidentiality_laws.specs.EmptyPlaces.{CallMovesToEmptyPlaces};
+ghost use Rattle.confidentiality_laws.specs.TwoRuns.{RunsAreSameButBytes, RunsTellTheSame};
+ghost use Rattle.interrupt_laws.specs.Raising.{RaiseFindsClaim};
+ghost use Rattle.interrupt_laws.specs.TimerLaw.{ArmingsAreMoments, TimerHolds, TimerLaw};
+ghost use Rattle.interrupt_laws.specs.Balance.{NoInterruptIsLost};
+ghost use Rattle.interrupt_laws.specs.Busy.{PendingStaysBusy, StartsBusy};
+ghost use Rattle.interrupt_laws.specs.Delivering.{DeliveredAtMostOnce, PendingAreClaimed, deliveries, once_if, raises};
+ghost use Rattle.interrupt_laws.specs.Starting.{IrqStartsIfFree, IrqStartsOneOrNothing};
+ghost use Rattle.machine_laws.specs.History.{behind, history, reached, stopped};
+ghost use Rattle.machine_laws.specs.HistoryMoments.{moments_of};
+ghost use Rattle.machine_laws.specs.Interleaving.{AreReadyInTurn, picks_and_ticks, steps_in_turn};
+ghost use Rattle.machine_laws.specs.Reserved.{IsReservedByThread};
+ghost use Rattle.confidentiality_laws.specs.TwoHistories.{StartSideBySide, TellTheSame};
 ghost use Rattle.laws.specs.Interrupts.{HistoriesAreBalanced, IdleAtTheEnd, IdleSinceBoot, IdleSinceBusy};
 ghost use Rattle.laws.specs.LoadedWord.{EveryScFindsItsWord, HadLoaded, HasLoaded};
 ghost use Rattle.laws.specs.Spinning.{JumpSpins, SomeIsAtRisk};
@@ -190,7 +190,7 @@ pub fn sc_finds_the_loaded_word()
 {}
 
 /// **A jump to itself spins.** A Ready thread whose next instruction is `jal x0, 0` stays as it is by each of its steps, so picks can starve
-/// all others (`picks_can_starve` of `record_laws`). Some machine has such a thread, and another thread that is Ready.
+/// all others (`picks_can_starve` of `transcript_laws`). Some machine has such a thread, and another thread that is Ready.
 pub fn a_jump_to_itself_spins()
     ensures spins { JumpSpins }
     ensures witness { SomeIsAtRisk }

@@ -2,6 +2,7 @@ pub mod Calling
 pub mod Dying
 pub mod Executing
 pub mod Forwarding
+pub mod Histories
 pub mod Interrupting
 pub mod Messaging
 pub mod Receiving

@@ -1,1 +1,5 @@
+pub mod History
+pub mod HistoryMoments
+pub mod Interleaving
+pub mod Reserved
 pub mod TimerPage

@@ -3,7 +3,7 @@
 ghost use Rattle.std.specs.Prelude.{ℕ, ◌≡◌, List, Some};
 ghost use Rattle.xk_base.specs.declared.errors.XousError.{XousError};
 ghost use Rattle.xk_base.specs.declared.ids.ThreadId.{ThreadId};
-ghost use Rattle.xk_base.specs.Calls.CallWords.{call_number};
+ghost use Rattle.syscall_codec.specs.CallWords.{call_number};
 ghost use Rattle.machine_model.specs.Stepping.Acts.{call_by};
 ghost use Rattle.machine_model.specs.Calling.Calls.{call, call_at, call_table};
 ghost use Rattle.machine_model.specs.State.Changes.{Outcome, Refused, Retried, call_settled};

@@ -1,8 +1,8 @@
 //! Laws of the deaths of processes: whatever messages there are, each keeps the invariant.
 
 ghost use Rattle.std.specs.Prelude.{ℕ, ◌≡◌, ◌==◌, false, true, List, None, Some};
-ghost use Rattle.xk_base.specs.Calls.CallNumbers.{terminate_process};
-ghost use Rattle.xk_base.specs.Calls.CallWords.{call_number};
+ghost use Rattle.syscall_codec.specs.CallNumbers.{terminate_process};
+ghost use Rattle.syscall_codec.specs.CallWords.{call_number};
 ghost use Rattle.xk_base.specs.declared.ids.Number.{Number};
 ghost use Rattle.xk_base.specs.declared.ids.Pid.{Pid};
 ghost use Rattle.xk_base.specs.declared.ids.ThreadId.{ThreadId};

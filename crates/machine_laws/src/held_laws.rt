@@ -1,8 +1,8 @@
 //! The calls on messages that are held keep the invariant.
 ghost use Rattle.std.specs.Prelude.{ℕ, ◌≡◌, List, Some};
 ghost use Rattle.xk_base.specs.declared.ids.ThreadId.{ThreadId};
-ghost use Rattle.xk_base.specs.Calls.CallNumbers.{forward_message, return_scalar1, return_scalar2};
-ghost use Rattle.xk_base.specs.Calls.CallWords.{call_number};
+ghost use Rattle.syscall_codec.specs.CallNumbers.{forward_message, return_scalar1, return_scalar2};
+ghost use Rattle.syscall_codec.specs.CallWords.{call_number};
 ghost use Rattle.machine_model.specs.Stepping.Acts.{call_by};
 ghost use Rattle.machine_model.specs.State.Machine.{Machine};
 ghost use Rattle.machine_model.specs.Runs.Matched.{Matched};

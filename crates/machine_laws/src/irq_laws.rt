@@ -2,8 +2,8 @@
 
 ghost use Rattle.std.specs.Prelude.{ℕ, ◌≡◌, List, Some};
 ghost use Rattle.xk_base.specs.declared.ids.ThreadId.{ThreadId};
-ghost use Rattle.xk_base.specs.Calls.CallNumbers.{claim_interrupt, free_interrupt};
-ghost use Rattle.xk_base.specs.Calls.CallWords.{call_number};
+ghost use Rattle.syscall_codec.specs.CallNumbers.{claim_interrupt, free_interrupt};
+ghost use Rattle.syscall_codec.specs.CallWords.{call_number};
 ghost use Rattle.machine_model.specs.Stepping.Acts.{call_by};
 ghost use Rattle.machine_model.specs.Runs.Kept.{IrqKeepsMatched};
 ghost use Rattle.machine_model.specs.State.Machine.{Machine};

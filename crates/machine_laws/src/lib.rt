@@ -1,15 +1,17 @@
-//! Laws of the abstract machine over whole steps and events: each keeps the invariant. The functions have no code; their
-//! contracts are the laws.
+//! Laws of the abstract machine over whole steps and events: each keeps the invariant. Then what a list of events makes of a machine: its
+//! history up to the step limit, and the moments that it goes through. The functions have no code; their contracts are the laws.
 #![tactic(auto)]
 
 mod call_laws;
 mod change_laws;
 mod death_laws;
+mod events;
 mod held_laws;
 mod instruction_laws;
 mod irq_laws;
 mod memory_laws;
 mod message_laws;
+mod moments;
 mod receive_laws;
 mod send_laws;
 mod server_laws;
@@ -28,6 +30,13 @@ pub use death_laws::{
     death_keeps_matched, kill_keeps_matched, last_end_keeps_matched, lone_death_forgets,
     terminate_process_keeps_matched, trap_keeps_matched,
 };
+pub use events::{
+    events_are_played_in_order, events_without_steps_are_played, histories_follow_each_other,
+    idle_tick_ends_the_turn, no_events_do_nothing, nothing_follows_the_limit,
+    records_are_only_added, steps_equal_the_limit_met, steps_stay_within_the_limit,
+    tick_does_one_step_after_another, tick_meets_the_limit, tick_zero_ends_the_turn,
+    unready_thread_is_not_picked,
+};
 pub use held_laws::{
     forward_message_keeps_matched, return_scalar1_keeps_matched, return_scalar2_keeps_matched,
 };
@@ -40,6 +49,10 @@ pub use memory_laws::{
     unmap_keeps_matched, update_keeps_matched,
 };
 pub use message_laws::return_memory_keeps_matched;
+pub use moments::{
+    history_is_a_run, moments_follow_each_other, moments_keep_the_cursor,
+    run_ends_in_the_last_state,
+};
 pub use receive_laws::{receive_message_keeps_matched, try_receive_message_keeps_matched};
 pub use send_laws::{send_message_keeps_matched, try_send_message_keeps_matched};
 pub use server_laws::{

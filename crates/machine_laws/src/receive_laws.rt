@@ -2,8 +2,8 @@
 
 ghost use Rattle.std.specs.Prelude.{ℕ, ◌≡◌, List, Some};
 ghost use Rattle.xk_base.specs.declared.ids.ThreadId.{ThreadId};
-ghost use Rattle.xk_base.specs.Calls.CallNumbers.{receive_message, try_receive_message};
-ghost use Rattle.xk_base.specs.Calls.CallWords.{call_number};
+ghost use Rattle.syscall_codec.specs.CallNumbers.{receive_message, try_receive_message};
+ghost use Rattle.syscall_codec.specs.CallWords.{call_number};
 ghost use Rattle.machine_model.specs.Stepping.Acts.{call_by};
 ghost use Rattle.machine_model.specs.State.Machine.{Machine};
 ghost use Rattle.machine_model.specs.Runs.Matched.{Matched};

@@ -2,8 +2,8 @@
 
 ghost use Rattle.std.specs.Prelude.{ℕ, ◌≤◌, ◌≡◌, true, List, Some};
 ghost use Rattle.xk_base.specs.declared.ids.ThreadId.{ThreadId};
-ghost use Rattle.xk_base.specs.Calls.CallNumbers.{yield_turn, get_thread_id, get_process_id, create_thread, join_thread};
-ghost use Rattle.xk_base.specs.Calls.CallWords.{call_number};
+ghost use Rattle.syscall_codec.specs.CallNumbers.{yield_turn, get_thread_id, get_process_id, create_thread, join_thread};
+ghost use Rattle.syscall_codec.specs.CallWords.{call_number};
 ghost use Rattle.machine_model.specs.Stepping.Acts.{call_by};
 ghost use Rattle.machine_model.specs.State.Changes.{Served, call_settled, answering};
 ghost use Rattle.machine_model.specs.State.Machine.{Machine};

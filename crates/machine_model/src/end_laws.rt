@@ -2,7 +2,7 @@
 
 ghost use Rattle.std.specs.Prelude.{ℕ, ◌≡◌, ◌<◌, ◌==◌, ◌||◌, Bool, true, false, List, None, Some, map};
 ghost use Rattle.std.specs.List.{list_any};
-ghost use Rattle.xk_base.specs.Calls.CallNumbers.{call_numbers};
+ghost use Rattle.syscall_codec.specs.CallNumbers.{call_numbers};
 ghost use Rattle.xk_base.specs.declared.ids.Number.{Number};
 ghost use Rattle.xk_base.specs.declared.ids.Pid.{Pid};
 ghost use Rattle.xk_base.specs.declared.ids.Serial.{Serial};

@@ -1,7 +1,7 @@
 //! Refusals of system calls.
 
 ghost use Rattle.std.specs.Prelude.{◌≡◌};
-ghost use Rattle.xk_base.specs.Calls.Replies.{refused_words};
+ghost use Rattle.syscall_codec.specs.ReplyWords.{refused_words};
 ghost use Rattle.machine_model.specs.State.Changes.{first_refusal};
 
 use xk_base::XousError;

@@ -1,2 +1,1 @@
-mod SmallSpaceLemmas
 mod UnlentLemmas

@@ -6,11 +6,11 @@ use Rattle.std.specs.Option.{option_and_then, option_map, option_map_or}
 use Rattle.ledger_model.specs.Loans.{LoanRun, loans}
 use Rattle.msg_queue.specs.Seats.{Seat, empty_seat, seat_of}
 use Rattle.msg_queue.specs.declared.held.Held.{Held}
-use Rattle.state_rows.specs.Machines.{message_of, place_at}
-use Rattle.state_rows.specs.declared.state.MessageRow.{MessageRow}
-use Rattle.state_rows.specs.declared.state.PageRow.{PageRow}
-use Rattle.state_rows.specs.declared.state.ServerRow.{ServerRow}
-use Rattle.state_rows.specs.declared.state.State.{State}
+use Rattle.snapshot_rows.specs.Machines.{message_of, place_at}
+use Rattle.snapshot_rows.specs.declared.state.MessageRow.{MessageRow}
+use Rattle.snapshot_rows.specs.declared.state.PageRow.{PageRow}
+use Rattle.snapshot_rows.specs.declared.state.ServerRow.{ServerRow}
+use Rattle.snapshot_rows.specs.declared.state.State.{State}
 use Rattle.vm_memory.specs.Memory.{ledger, store_of}
 use Rattle.vm_memory.specs.Sound.{IsSound}
 use Rattle.vm_memory.specs.declared.memory.Memory.{Memory}

@@ -4,9 +4,9 @@ use Rattle.boot_plan.specs.declared.plans.BootPlan.{BootPlan}
 use Rattle.boot_plan.specs.declared.plans.ProcPlan.{ProcPlan}
 use Rattle.ledger_model.specs.Ledger.{Ledger, pages}
 use Rattle.machine_model.specs.Runs.Matched.{Matched}
-use Rattle.state_rows.specs.declared.state.State.{State}
+use Rattle.snapshot_rows.specs.declared.state.State.{State}
 use Rattle.suspend_image.specs.Forms.{Spells}
-use Rattle.state_rows.specs.Machines.{ledger_of, machine_of}
+use Rattle.snapshot_rows.specs.Machines.{ledger_of, machine_of}
 use Rattle.vm_memory.specs.Memory.{Size}
 use Rattle.xk_base.specs.Numbers.Limits.{table_frames}
 use Rattle.xk_base.specs.declared.limits.TheConstants.{FRAME_LIMIT, SLOT_LIMIT}

@@ -3,9 +3,9 @@ use Rattle.std.specs.Prelude.{◌==◌, List, map}
 use Rattle.irq_claims.specs.declared.claims.Claim.{Claim}
 use Rattle.process_table.specs.State.{ProcessState}
 use Rattle.server_table.specs.declared.table.ServerSeat.{ServerSeat}
-use Rattle.state_rows.specs.declared.state.ClaimRow.{ClaimRow}
-use Rattle.state_rows.specs.declared.state.ProcRow.{ProcRow}
-use Rattle.state_rows.specs.declared.state.ServerRow.{ServerRow}
+use Rattle.snapshot_rows.specs.declared.state.ClaimRow.{ClaimRow}
+use Rattle.snapshot_rows.specs.declared.state.ProcRow.{ProcRow}
+use Rattle.snapshot_rows.specs.declared.state.ServerRow.{ServerRow}
 use Rattle.xk_base.specs.Tables.Sids.{serial_of}
 use Rattle.xk_base.specs.declared.ids.Serial.{Serial}
 

@@ -1,9 +1,9 @@
 //! One message of a state, and its loan from the pages of its sender.
 
 ghost use Rattle.std.specs.Prelude.{◌≡◌, ◌+◌, ◌<◌, ◌≤◌, All, IsSome, Some, length, slice_get};
-ghost use Rattle.state_rows.specs.Machines.{message_of, sender_of};
-ghost use Rattle.state_rows.specs.Order.{page_key, AscendInTwo};
-ghost use Rattle.state_rows.specs.declared.state.PageRow.{PageRow as Page};
+ghost use Rattle.snapshot_rows.specs.Machines.{message_of, sender_of};
+ghost use Rattle.snapshot_rows.specs.Order.{page_key, AscendInTwo};
+ghost use Rattle.snapshot_rows.specs.declared.state.PageRow.{PageRow as Page};
 ghost use Rattle.xk_base.specs.declared.ids.Place.{Place as PlaceOf};
 ghost use Rattle.xk_base.specs.Calls.Kinds.{kind_at};
 ghost use Rattle.resume_path.specs.Messages.{first_lent, is_lend_row, is_orphaned, row_kind};

@@ -7,8 +7,8 @@ ghost use Rattle.std.specs.Prelude.{◌≡◌, ◌+◌, ◌<◌, ◌==◌, ◌&&
 ghost use Rattle.ledger_model.specs.Ledger.{Ledger, empty_ledger};
 ghost use Rattle.ledger_model.specs.Places.{in_run, place_after};
 ghost use Rattle.ledger_model.specs.Steps.{make};
-ghost use Rattle.state_rows.specs.Order.{orphan_key, AscendInTwo};
-ghost use Rattle.state_rows.specs.declared.state.OrphanRow.{OrphanRow as Orphan};
+ghost use Rattle.snapshot_rows.specs.Order.{orphan_key, AscendInTwo};
+ghost use Rattle.snapshot_rows.specs.declared.state.OrphanRow.{OrphanRow as Orphan};
 ghost use Rattle.msg_queue.specs.Seats.{empty_seat};
 ghost use Rattle.vm_memory.specs.Memory.{IsUsable, capacity_of, frames_for_pages, ledger, processes};
 ghost use Rattle.vm_memory.specs.Sound.{IsSound};

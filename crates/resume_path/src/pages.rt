@@ -5,7 +5,7 @@ ghost use Rattle.ledger_model.specs.Ledger.{Ledger, pages};
 ghost use Rattle.ledger_model.specs.Places.{is_place_in, is_user_place};
 ghost use Rattle.ledger_model.specs.Reach.{is_free};
 ghost use Rattle.ledger_model.specs.RunTests.{console_mapped};
-ghost use Rattle.state_rows.specs.Machines.{ledger_page, place_at};
+ghost use Rattle.snapshot_rows.specs.Machines.{ledger_page, place_at};
 ghost use Rattle.sv32_space.specs.PageSteps.{place_page, without_loan};
 ghost use Rattle.vm_memory.specs.Memory.{IsUsable, capacity_of, frames_for_pages, ledger, processes};
 ghost use Rattle.vm_memory.specs.Sound.{IsSound};

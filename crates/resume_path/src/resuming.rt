@@ -10,7 +10,7 @@ ghost use Rattle.process_table.specs.Shown.{process_count as processes_made, pro
 ghost use Rattle.xk_parts.specs.Shown.{process_of, thread_of};
 ghost use Rattle.server_table.specs.Listed.{listed_servers};
 ghost use Rattle.server_table.specs.ServersOf.{servers_of};
-ghost use Rattle.state_rows.specs.Machines.{machine_of as state_machine, processes_of as state_processes, threads_of as state_threads};
+ghost use Rattle.snapshot_rows.specs.Machines.{machine_of as state_machine, processes_of as state_processes, threads_of as state_threads};
 ghost use Rattle.thread_table.specs.Shown.{process_count as processes_threaded, threads_of};
 ghost use Rattle.vm_memory.specs.Bytes.{MeansBytes, none_out};
 ghost use Rattle.vm_memory.specs.Memory.{IsUsable, capacity_of, frames_for_pages, processes, size, store_of};

@@ -1,7 +1,7 @@
 //! The servers of a state, as they stand at their seats.
 
 ghost use Rattle.std.specs.Prelude.{◌≡◌, ◌<◌, OnOk, IfOk, All, map, ◌++◌, ◌∷◌, []};
-ghost use Rattle.state_rows.specs.declared.state.ServerRow.{ServerRow as Row};
+ghost use Rattle.snapshot_rows.specs.declared.state.ServerRow.{ServerRow as Row};
 ghost use Rattle.resume_path.specs.Resumable.{CanResume};
 ghost use Rattle.resume_path.specs.Tables.{row_seat};
 

@@ -12,10 +12,10 @@ use Rattle.ledger_model.specs.Places.{listed_places, place_at, places_of_process
 use Rattle.machine_model.specs.State.Machine.{Machine, Process}
 use Rattle.suspend_image.specs.Spelling.{claim_bytes, proc_bytes, rows_bytes, server_bytes, thread_bytes}
 use Rattle.suspend_image.specs.Words.{word_bytes}
-use Rattle.state_rows.specs.declared.state.ClaimRow.{ClaimRow}
-use Rattle.state_rows.specs.declared.state.ProcRow.{ProcRow}
-use Rattle.state_rows.specs.declared.state.ServerRow.{ServerRow}
-use Rattle.state_rows.specs.declared.state.ThreadRow.{ThreadRow}
+use Rattle.snapshot_rows.specs.declared.state.ClaimRow.{ClaimRow}
+use Rattle.snapshot_rows.specs.declared.state.ProcRow.{ProcRow}
+use Rattle.snapshot_rows.specs.declared.state.ServerRow.{ServerRow}
+use Rattle.snapshot_rows.specs.declared.state.ThreadRow.{ThreadRow}
 use Rattle.xk_base.specs.Tables.Circle.{id_at, listed_ids, thread_ids}
 use Rattle.xk_base.specs.Tables.Counting.{listed_below}
 use Rattle.xk_base.specs.declared.limits.TheConstants.{INTERRUPT_LIMIT}

@@ -24,7 +24,7 @@ use Rattle.xk_base.specs.declared.ids.Number.{Number}
 use Rattle.xk_base.specs.declared.ids.Place.{Place}
 use Rattle.xk_base.specs.declared.ids.ThreadId.{ThreadId}
 use Rattle.xk_base.specs.declared.messages.Message.{Message}
-use Rattle.machine_history.specs.Reserved.{IsReservedByThread}
+use Rattle.machine_laws.specs.Reserved.{IsReservedByThread}
 use Rattle.save_path.specs.Fitting.{AreRegisters, EachBelow, IsFit, IsMessageFit, IsServerFit, IsThreadFit}
 
 -- ---- key by key

@@ -11,8 +11,8 @@ use Rattle.suspend_image.proofs.Sheets.SpellingLemmas.{length-word_bytes, none_a
 use Rattle.suspend_image.specs.Sheets.{HasRoom, SheetBytes, appended}
 use Rattle.suspend_image.specs.Spelling.{message_bytes, server_bytes}
 use Rattle.suspend_image.specs.Words.{word_bytes}
-use Rattle.state_rows.specs.declared.state.MessageRow.{MessageRow}
-use Rattle.state_rows.specs.declared.state.ServerRow.{ServerRow}
+use Rattle.snapshot_rows.specs.declared.state.MessageRow.{MessageRow}
+use Rattle.snapshot_rows.specs.declared.state.ServerRow.{ServerRow}
 use Rattle.suspend_image.specs.SavedRows.{message_row}
 use Rattle.xk_base.specs.declared.messages.Message.{Message}
 use Rattle.save_path.specs.Fitting.{IsMessageFit}

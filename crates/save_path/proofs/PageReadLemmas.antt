@@ -12,8 +12,8 @@ use Rattle.ledger_model.specs.Reach.{holder_role, home_may, home_or, holder_may,
 use Rattle.phys_pages.specs.declared.infos.LoanInfo.{LoanInfo}
 use Rattle.suspend_image.proofs.Sheets.SpellingLemmas.{both_appended, none_appended}
 use Rattle.suspend_image.specs.Sheets.{HasRoom, SheetBytes, appended}
-use Rattle.state_rows.specs.declared.state.OrphanRow.{OrphanRow}
-use Rattle.state_rows.specs.declared.state.PageRow.{PageRow}
+use Rattle.snapshot_rows.specs.declared.state.OrphanRow.{OrphanRow}
+use Rattle.snapshot_rows.specs.declared.state.PageRow.{PageRow}
 use Rattle.save_path.specs.Written.{Fits}
 use Rattle.save_path.proofs.SheetLemmas.{fits_behind, fits_less, has_room}
 use Rattle.suspend_image.specs.Spelling.{orphan_words, page_words}

@@ -10,7 +10,7 @@ use Rattle.suspend_image.proofs.Sheets.SpellingLemmas.{both_appended, length-wor
 use Rattle.suspend_image.specs.Sheets.{HasRoom, SheetBytes, appended}
 use Rattle.suspend_image.specs.Spelling.{proc_bytes}
 use Rattle.suspend_image.specs.Words.{word, word_bytes}
-use Rattle.state_rows.specs.declared.state.ProcRow.{ProcRow}
+use Rattle.snapshot_rows.specs.declared.state.ProcRow.{ProcRow}
 use Rattle.xk_base.specs.declared.ids.Serial.{Serial}
 use Rattle.save_path.specs.Rows.{rows_below}
 use Rattle.suspend_image.specs.SavedRows.{flag, proc_row}

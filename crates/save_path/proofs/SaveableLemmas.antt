@@ -11,7 +11,7 @@ use Rattle.sv32_space.specs.Tie.{Held}
 use Rattle.vm_memory.specs.Memory.{ledger, processes}
 use Rattle.xk_base.specs.Tables.Circle.{id_at, thread_ids}
 use Rattle.xk_base.specs.declared.limits.TheConstants.{INTERRUPT_LIMIT}
-use Rattle.machine_history.specs.Reserved.{IsReservedByThread}
+use Rattle.machine_laws.specs.Reserved.{IsReservedByThread}
 use Rattle.save_path.specs.Fitting.{AreNumbersFit, EachBelow, IsFit, IsServerFit, IsThreadFit}
 use Rattle.save_path.specs.Written.{BringsPages}
 use Rattle.save_path.proofs.FittingLemmas.{saveable_from}

@@ -9,7 +9,7 @@ use Rattle.server_table.specs.ServersOf.{servers_of}
 use Rattle.server_table.specs.declared.table.Servers.{Servers}
 use Rattle.suspend_image.specs.Sheets.{SheetBytes}
 use Rattle.suspend_image.specs.Spelling.{server_bytes}
-use Rattle.state_rows.specs.declared.state.ServerRow.{ServerRow}
+use Rattle.snapshot_rows.specs.declared.state.ServerRow.{ServerRow}
 use Rattle.xk_base.proofs.CountingLemmas.{count_below-same}
 use Rattle.xk_base.specs.Tables.Counting.{count_below}
 use Rattle.save_path.specs.Fitting.{EachBelow, IsServerFit}

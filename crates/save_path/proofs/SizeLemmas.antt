@@ -3,13 +3,13 @@ use Rattle.std.proofs.Common.{◌≡◌, ◌+◌, ◌*◌, ◌≤◌, [], ◌∷
 use Rattle.std.proofs.lemmas.List.{length-append}
 use Rattle.suspend_image.proofs.Sheets.SpellingLemmas.{length-word_bytes}
 use Rattle.suspend_image.specs.Spelling.{claim_bytes, machine_bytes, message_bytes, orphan_words, page_words, proc_bytes, thread_bytes}
-use Rattle.state_rows.specs.declared.state.ClaimRow.{ClaimRow}
-use Rattle.state_rows.specs.declared.state.MessageRow.{MessageRow}
-use Rattle.state_rows.specs.declared.state.OrphanRow.{OrphanRow}
-use Rattle.state_rows.specs.declared.state.PageRow.{PageRow}
-use Rattle.state_rows.specs.declared.state.ProcRow.{ProcRow}
-use Rattle.state_rows.specs.declared.state.State.{State}
-use Rattle.state_rows.specs.declared.state.ThreadRow.{ThreadRow}
+use Rattle.snapshot_rows.specs.declared.state.ClaimRow.{ClaimRow}
+use Rattle.snapshot_rows.specs.declared.state.MessageRow.{MessageRow}
+use Rattle.snapshot_rows.specs.declared.state.OrphanRow.{OrphanRow}
+use Rattle.snapshot_rows.specs.declared.state.PageRow.{PageRow}
+use Rattle.snapshot_rows.specs.declared.state.ProcRow.{ProcRow}
+use Rattle.snapshot_rows.specs.declared.state.State.{State}
+use Rattle.snapshot_rows.specs.declared.state.ThreadRow.{ThreadRow}
 
 pub length-machine : (s : State) → length (machine_bytes s) ≡ 52
 unfolding machine_bytes

@@ -12,7 +12,7 @@ use Rattle.suspend_image.specs.Sheets.{SheetBytes, appended, with_bytes, with_wo
 use Rattle.suspend_image.specs.Spelling.{orphan_words, page_words}
 use Rattle.suspend_image.specs.Words.{word}
 use Rattle.suspend_image.proofs.Sheets.SpellingLemmas.{both_appended, none_appended}
-use Rattle.state_rows.specs.declared.state.PageRow.{PageRow}
+use Rattle.snapshot_rows.specs.declared.state.PageRow.{PageRow}
 use Rattle.xk_base.specs.declared.ids.Place.{Place}
 use Rattle.xk_base.specs.declared.pages.Right.{Right}
 use Rattle.save_path.specs.Pages.{AppendsText, text_if}

@@ -5,10 +5,10 @@ use Rattle.ledger_model.specs.Ledger.{Ledger, Orphan, Page}
 use Rattle.ledger_model.specs.Places.{place_at, places_of_process}
 use Rattle.machine_model.specs.State.Machine.{Claim, Process, Server, Thread}
 use Rattle.suspend_image.specs.Spelling.{orphan_words, page_words}
-use Rattle.state_rows.specs.declared.state.ClaimRow.{ClaimRow}
-use Rattle.state_rows.specs.declared.state.ProcRow.{ProcRow}
-use Rattle.state_rows.specs.declared.state.ServerRow.{ServerRow}
-use Rattle.state_rows.specs.declared.state.ThreadRow.{ThreadRow}
+use Rattle.snapshot_rows.specs.declared.state.ClaimRow.{ClaimRow}
+use Rattle.snapshot_rows.specs.declared.state.ProcRow.{ProcRow}
+use Rattle.snapshot_rows.specs.declared.state.ServerRow.{ServerRow}
+use Rattle.snapshot_rows.specs.declared.state.ThreadRow.{ThreadRow}
 use Rattle.xk_base.specs.Tables.Circle.{id_at}
 use Rattle.xk_base.specs.declared.ids.Place.{Place}
 use Rattle.xk_base.specs.declared.ids.ThreadId.{ThreadId}

@@ -1,7 +1,7 @@
 //! The state of a machine is written whole: its numbers, its tables, and its pages.
 
 ghost use Rattle.std.specs.Prelude.{◌≡◌, ◌≤◌, ◌+◌, ◌*◌, IsTrue, true, OnErr, OnOk};
-ghost use Rattle.machine_history.specs.Reserved.{IsReservedByThread};
+ghost use Rattle.machine_laws.specs.Reserved.{IsReservedByThread};
 ghost use Rattle.machine_model.specs.Runs.Matched.{Matched};
 ghost use Rattle.process_table.specs.Shown.{process_count};
 ghost use Rattle.save_path.specs.Fitting.{IsFit};

@@ -7,7 +7,7 @@ use Rattle.machine_model.specs.State.Threads.{Answers, both_answers, with_state}
 use Rattle.msg_queue.specs.Seats.{Seat, with_queued}
 use Rattle.msg_queue.specs.declared.held.Held.{Held}
 use Rattle.server_table.specs.ServerState.{ServerState}
-use Rattle.xk_base.specs.Calls.Replies.{message_words}
+use Rattle.syscall_codec.specs.ReplyWords.{message_words}
 use Rattle.xk_base.specs.Tables.Connections.{connected_to}
 use Rattle.xk_base.specs.declared.ids.Number.{Number}
 use Rattle.xk_base.specs.declared.ids.Serial.{Serial}

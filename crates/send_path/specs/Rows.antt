@@ -9,7 +9,7 @@ use Rattle.machine_model.specs.State.Changes.{Change, Outcome, Refused, Served, 
 use Rattle.machine_model.specs.State.Machine.{Machine}
 use Rattle.machine_model.specs.Stepping.Step.{record_of}
 use Rattle.sv32_space.specs.Tie.{Held}
-use Rattle.xk_base.specs.Calls.CallWords.{call_number}
+use Rattle.syscall_codec.specs.CallWords.{call_number}
 use Rattle.xk_base.specs.Log.{LogState}
 use Rattle.xk_base.specs.declared.errors.XousError.{XousError}
 use Rattle.xk_base.specs.declared.ids.Number.{Number}

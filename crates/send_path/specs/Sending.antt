@@ -15,8 +15,8 @@ use Rattle.msg_queue.specs.Seats.{Seat}
 use Rattle.server_table.specs.declared.table.Servers.{Servers}
 use Rattle.sv32_space.specs.Tie.{Held}
 use Rattle.vm_memory.specs.Loaning.Sending.{IsFreeArrival}
-use Rattle.xk_base.specs.Calls.CallNumbers.{try_send_message}
-use Rattle.xk_base.specs.Calls.CallWords.{call_number, send_cid, send_id, send_kind, send_words}
+use Rattle.syscall_codec.specs.CallNumbers.{try_send_message}
+use Rattle.syscall_codec.specs.CallWords.{call_number, send_cid, send_id, send_kind, send_words}
 use Rattle.xk_base.specs.Numbers.Windows.{page_of}
 use Rattle.xk_base.specs.declared.errors.XousError.{XousError}
 use Rattle.xk_base.specs.declared.errors.XousError.TheVariants.{BadAlignment, BadAddress, ServerQueueFull, ShareViolation}

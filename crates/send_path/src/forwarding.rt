@@ -6,8 +6,8 @@ ghost use Rattle.machine_model.specs.Messaging.Messages.{is_lend as is_lend_kind
 ghost use Rattle.thread_table.specs.ThreadMap.{is_ready};
 ghost use Rattle.thread_table.specs.Shown.{threads_of};
 ghost use Rattle.vm_memory.specs.Memory.{IsUsable};
-ghost use Rattle.xk_base.specs.Calls.CallNumbers.{forward_message as forward_number};
-ghost use Rattle.xk_base.specs.Calls.CallWords.{call_number};
+ghost use Rattle.syscall_codec.specs.CallNumbers.{forward_message as forward_number};
+ghost use Rattle.syscall_codec.specs.CallWords.{call_number};
 ghost use Rattle.send_path.specs.Forwarding.{forward_row};
 ghost use Rattle.xk_parts.specs.Parts.{parts_of};
 ghost use Rattle.xk_parts.specs.Sound.{AreSound};

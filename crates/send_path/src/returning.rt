@@ -4,9 +4,9 @@ ghost use Rattle.std.specs.Prelude.{◌≡◌, ◌+◌, ◌≤◌, ◌==◌, ◌
 ghost use Rattle.syscall_codec.specs.Replies.{words_of};
 ghost use Rattle.thread_table.specs.ThreadMap.{is_ready};
 ghost use Rattle.thread_table.specs.Shown.{threads_of};
-ghost use Rattle.xk_base.specs.Calls.CallNumbers.{return_memory as memory_number};
-ghost use Rattle.xk_base.specs.Calls.CallNumbers.{return_scalar1 as scalar1_number, return_scalar2 as scalar2_number};
-ghost use Rattle.xk_base.specs.Calls.CallWords.{call_number};
+ghost use Rattle.syscall_codec.specs.CallNumbers.{return_memory as memory_number};
+ghost use Rattle.syscall_codec.specs.CallNumbers.{return_scalar1 as scalar1_number, return_scalar2 as scalar2_number};
+ghost use Rattle.syscall_codec.specs.CallWords.{call_number};
 ghost use Rattle.machine_model.specs.State.Machine.{Machine};
 ghost use Rattle.xk_parts.specs.Parts.{parts_of};
 ghost use Rattle.xk_parts.specs.Sound.{AreSound};

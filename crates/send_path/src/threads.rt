@@ -6,7 +6,7 @@ ghost use Rattle.machine_model.specs.State.Changes.{replies};
 ghost use Rattle.machine_model.specs.State.Threads.{answer_to, both_answers, passed, with_state};
 ghost use Rattle.thread_table.specs.Shown.{process_count};
 ghost use Rattle.xk_base.specs.Tables.Circle.{is_thread_id, same_thread};
-ghost use Rattle.xk_base.specs.Calls.Replies.{plain_words};
+ghost use Rattle.syscall_codec.specs.ReplyWords.{plain_words};
 ghost use Rattle.xk_base.specs.declared.records.What.TheVariants.{Reply as Replied};
 ghost use Rattle.xk_parts.specs.Shown.{state_of, threads_shown};
 ghost use Rattle.send_path.specs.Rows.{log_with};

@@ -2,15 +2,15 @@
 use Rattle.std.proofs.Common.{◌≡◌, ℕ, List, Some, sym, ap, subst, ◌∙◌, inl, inr}
 use Rattle.kernel_args.specs.declared.faults.ArgFault.{ArgFault}
 use Rattle.machine_model.specs.Runs.Matched.{Matched}
-use Rattle.state_rows.specs.declared.state.State.{State}
+use Rattle.snapshot_rows.specs.declared.state.State.{State}
 use Rattle.suspend_image.specs.Forms.{Spells}
-use Rattle.state_rows.specs.Machines.{machine_of}
+use Rattle.snapshot_rows.specs.Machines.{machine_of}
 use Rattle.suspend_image.specs.StateFaults.{state_fault}
-use Rattle.state_matching.specs.UnmatchedParts.{IsFirstUnmatched}
-use Rattle.state_rows.specs.Order.{AreRowsInOrder}
+use Rattle.snapshot_matching.specs.UnmatchedParts.{IsFirstUnmatched}
+use Rattle.snapshot_rows.specs.Order.{AreRowsInOrder}
 use Rattle.suspend_image.specs.FileFaults.{IsFirstFault}
-use Rattle.state_matching.proofs.FirstLemmas.{part_of, first_once}
-use Rattle.state_rows.proofs.KeyLemmas.{some_same}
+use Rattle.snapshot_matching.proofs.FirstLemmas.{part_of, first_once}
+use Rattle.snapshot_rows.proofs.KeyLemmas.{some_same}
 use Rattle.suspend_image.proofs.OrderLemmas.{threads_ascend, servers_ascend, claims_ascend, pages_ascend, orphans_ascend, procs_counted}
 use Rattle.suspend_image.proofs.SpellsLemmas.{spelled_once, spelled_has_no_fault}
 

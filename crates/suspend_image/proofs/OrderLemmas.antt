@@ -1,15 +1,15 @@
 -- The rows of a file stand in the order that their form says.
 use Rattle.std.proofs.Common.{◌≡◌, ℕ, ◌+◌, ◌≤◌, Bool, true, false, cond, eqb, List, [], ◌∷◌, Option, Some, None, length, arith}
-use Rattle.state_rows.specs.declared.state.State.{State}
-use Rattle.state_rows.specs.declared.state.OrphanRow.{OrphanRow}
-use Rattle.state_rows.specs.declared.state.PageRow.{PageRow}
-use Rattle.state_rows.specs.declared.state.ThreadRow.{ThreadRow}
-use Rattle.state_rows.specs.Order.{after, thread_key, server_key, claim_key, page_key, orphan_key, AreInOrder, Ascend, AscendInTwo}
+use Rattle.snapshot_rows.specs.declared.state.State.{State}
+use Rattle.snapshot_rows.specs.declared.state.OrphanRow.{OrphanRow}
+use Rattle.snapshot_rows.specs.declared.state.PageRow.{PageRow}
+use Rattle.snapshot_rows.specs.declared.state.ThreadRow.{ThreadRow}
+use Rattle.snapshot_rows.specs.Order.{after, thread_key, server_key, claim_key, page_key, orphan_key, AreInOrder, Ascend, AscendInTwo}
 use Rattle.suspend_image.specs.Forms.{ArePlaced, IsThreadRow, IsServerRow, IsClaimRow, IsPageRow, IsOrphanRow, Spells}
 use Rattle.suspend_image.specs.Spelling.{page_bytes, orphan_bytes, rows_bytes}
-use Rattle.ledger_matching.proofs.Pages.OrphanLemmas.{OrphanForm}
-use Rattle.ledger_matching.proofs.Pages.PageLemmas.{PageForm}
-use Rattle.state_matching.proofs.ThreadRows.ThreadLemmas.{ThreadForm}
+use Rattle.snapshot_rows.proofs.Pages.OrphanLemmas.{OrphanForm}
+use Rattle.snapshot_rows.proofs.Pages.PageLemmas.{PageForm}
+use Rattle.snapshot_matching.proofs.ThreadRows.ThreadLemmas.{ThreadForm}
 
 -- a form that says more keeps the order
 weaker : {A K : Type 0} (form other : Option K → A → Type 0) (key : A → K) → ((before : Option K) (x : A) → form before x → other before x)

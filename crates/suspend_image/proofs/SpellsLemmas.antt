@@ -11,7 +11,7 @@ use Rattle.kernel_args.proofs.NumberLemmas.{IsBytes, IsBytes-drop, word_front, w
 use Rattle.kernel_args.proofs.RowFaultLemmas.{when_none, option_or_none}
 use Rattle.std.proofs.lemmas.Slice.Eq.{bytes_eq-Decides}
 use Rattle.std.proofs.lemmas.List.{take-append-drop, drop-drop, take_all}
-use Rattle.state_rows.specs.declared.state.State.{State}
+use Rattle.snapshot_rows.specs.declared.state.State.{State}
 use Rattle.suspend_image.specs.Words.{word}
 use Rattle.suspend_image.specs.Spelling.{parts_bytes, headed, with_header, state_bytes}
 use Rattle.suspend_image.specs.StateFaults.{state_at, state_of, is_not_state, is_bad_state_check, header_faults, form_fault, state_fault}

@@ -4,11 +4,11 @@ use Rattle.std.specs.Prelude.{All}
 use Rattle.std.specs.List.{AllByRecursion}
 use Rattle.std.proofs.lemmas.Bool.{lt-ltb}
 use Rattle.std.proofs.lemmas.List.Elements.{All-from_recursion}
-use Rattle.state_rows.specs.declared.state.State.{State}
-use Rattle.state_rows.specs.declared.state.PageRow.{PageRow}
-use Rattle.state_rows.specs.declared.state.OrphanRow.{OrphanRow}
+use Rattle.snapshot_rows.specs.declared.state.State.{State}
+use Rattle.snapshot_rows.specs.declared.state.PageRow.{PageRow}
+use Rattle.snapshot_rows.specs.declared.state.OrphanRow.{OrphanRow}
 use Rattle.suspend_image.specs.Spelling.{page_bytes, orphan_bytes}
-use Rattle.state_rows.specs.Order.{page_key, orphan_key}
+use Rattle.snapshot_rows.specs.Order.{page_key, orphan_key}
 use Rattle.suspend_image.specs.Forms.{StandsBefore, IsPageRow, IsOrphanRow, ArePlaced, Spells}
 
 -- the bytes of a page and of an orphan stand in a file; the console has none

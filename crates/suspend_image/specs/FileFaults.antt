@@ -3,12 +3,12 @@ use Rattle.std.specs.Prelude.{◌≡◌, ℕ, ◌⊎◌, List, Some}
 use Rattle.kernel_args.specs.declared.faults.ArgFault.{ArgFault}
 use Rattle.suspend_image.specs.declared.faults.StateError.{StateError}
 use Rattle.suspend_image.specs.declared.faults.StateError.TheVariants as errors
-use Rattle.state_matching.specs.declared.parts.Part.{Part}
-use Rattle.state_rows.specs.declared.state.State.{State}
+use Rattle.snapshot_matching.specs.declared.parts.Part.{Part}
+use Rattle.snapshot_rows.specs.declared.state.State.{State}
 use Rattle.suspend_image.specs.Forms.{Spells}
-use Rattle.state_rows.specs.Machines.{machine_of}
+use Rattle.snapshot_rows.specs.Machines.{machine_of}
 use Rattle.suspend_image.specs.StateFaults.{state_fault}
-use Rattle.state_matching.specs.UnmatchedParts.{number_of, IsFirstUnmatched}
+use Rattle.snapshot_matching.specs.UnmatchedParts.{number_of, IsFirstUnmatched}
 
 -- the machine can't be in the state
 abbrev pub state_unmatched : ℕ

@@ -2,16 +2,16 @@
 use Rattle.std.specs.Prelude.{◌≡◌, ℕ, ◌+◌, ◌≤◌, ◌<◌, ◌==◌, Bool, true, false, not, ◌||◌, nat_lt, nat_le, if◌then◌else◌, ⊤, List, [], ◌∷◌}
 use Rattle.std.specs.Prelude.{length, Option, Some, None}
 use Rattle.std.specs.List.{flat_map, AllByRecursion}
-use Rattle.state_rows.specs.declared.state.State.{State}
-use Rattle.state_rows.specs.declared.state.ProcRow.{ProcRow}
-use Rattle.state_rows.specs.declared.state.ThreadRow.{ThreadRow}
-use Rattle.state_rows.specs.declared.state.MessageRow.{MessageRow}
-use Rattle.state_rows.specs.declared.state.ServerRow.{ServerRow}
-use Rattle.state_rows.specs.declared.state.ClaimRow.{ClaimRow}
-use Rattle.state_rows.specs.declared.state.PageRow.{PageRow}
-use Rattle.state_rows.specs.declared.state.OrphanRow.{OrphanRow}
+use Rattle.snapshot_rows.specs.declared.state.State.{State}
+use Rattle.snapshot_rows.specs.declared.state.ProcRow.{ProcRow}
+use Rattle.snapshot_rows.specs.declared.state.ThreadRow.{ThreadRow}
+use Rattle.snapshot_rows.specs.declared.state.MessageRow.{MessageRow}
+use Rattle.snapshot_rows.specs.declared.state.ServerRow.{ServerRow}
+use Rattle.snapshot_rows.specs.declared.state.ClaimRow.{ClaimRow}
+use Rattle.snapshot_rows.specs.declared.state.PageRow.{PageRow}
+use Rattle.snapshot_rows.specs.declared.state.OrphanRow.{OrphanRow}
 use Rattle.suspend_image.specs.Reading.{greatest}
-use Rattle.state_rows.specs.Order.{AreInOrder, after, least_first, least_second, thread_key, server_key, claim_key, page_key, orphan_key}
+use Rattle.snapshot_rows.specs.Order.{AreInOrder, after, least_first, least_second, thread_key, server_key, claim_key, page_key, orphan_key}
 use Rattle.suspend_image.specs.Spelling.{page_bytes, orphan_bytes, rows_bytes, state_bytes}
 
 -- ---- numbers

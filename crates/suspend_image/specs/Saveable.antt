@@ -10,9 +10,9 @@ use Rattle.ledger_model.specs.WholePages.{HasWholePages}
 use Rattle.machine_model.specs.State.Machine.{Machine, Thread, Server, Claim, Reservation}
 use Rattle.machine_model.specs.State.Servers.{messages_of}
 use Rattle.machine_model.specs.Runs.Matched.{Matched}
-use Rattle.state_rows.specs.declared.state.State.{State}
+use Rattle.snapshot_rows.specs.declared.state.State.{State}
 use Rattle.suspend_image.specs.Forms.{Spells}
-use Rattle.state_rows.specs.Machines.{machine_of}
+use Rattle.snapshot_rows.specs.Machines.{machine_of}
 use Rattle.suspend_image.specs.Reading.{greatest}
 use Rattle.suspend_image.specs.SavedRows.{state_waits}
 

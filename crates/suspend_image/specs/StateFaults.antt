@@ -6,12 +6,12 @@ use Rattle.std.specs.Cmp.Lexicographic.{pointwise}
 use Rattle.kernel_args.specs.declared.faults.ArgFault.{ArgFault}
 use Rattle.kernel_args.specs.CheckNumber.{check_number}
 use Rattle.kernel_args.specs.Faults.{Check, ◌⇒◌at◌, first_fault, number_at}
-use Rattle.state_rows.specs.declared.state.State.{State}
+use Rattle.snapshot_rows.specs.declared.state.State.{State}
 use Rattle.suspend_image.specs.declared.faults.StateError.{StateError}
 use Rattle.suspend_image.specs.declared.faults.StateError.TheVariants as errors
 use Rattle.suspend_image.specs.Reading.{◌>>=◌, word_at, items_at, rows_at}
 use Rattle.suspend_image.specs.Rows.{numbers_at, timer_at, reserved_at, proc_at, thread_at, server_at, claim_at, page_at, orphan_at}
-use Rattle.state_rows.specs.Order.{thread_key, server_key, claim_key, page_key, orphan_key}
+use Rattle.snapshot_rows.specs.Order.{thread_key, server_key, claim_key, page_key, orphan_key}
 
 -- the file doesn't begin with `XousSt01`, or has no room for its length and its check number
 abbrev pub not_state : ℕ

@@ -4,10 +4,10 @@ ghost use Rattle.std.specs.Prelude.{◌≡◌, ℕ, ◌<◌, ◌≤◌, List, []
 ghost use Rattle.kernel_args.specs.declared.faults.ArgFault.{ArgFault};
 ghost use Rattle.machine_model.specs.Runs.Matched.{Matched};
 ghost use Rattle.machine_model.specs.State.Machine.{Machine};
-ghost use Rattle.state_rows.specs.declared.state.State.{State};
+ghost use Rattle.snapshot_rows.specs.declared.state.State.{State};
 ghost use Rattle.suspend_image.specs.Forms.{Spells};
 ghost use Rattle.suspend_image.specs.StateFaults.{state_of, state_fault};
-ghost use Rattle.state_rows.specs.Machines.{machine_of};
+ghost use Rattle.snapshot_rows.specs.Machines.{machine_of};
 ghost use Rattle.suspend_image.specs.FileFaults.{IsFirstFault};
 ghost use Rattle.suspend_image.specs.Saveable.{HasSizes, IsSpellable, SpellsMachine};
 ghost use Rattle.suspend_image.specs.Saving.{FitsSheet, IsSaving};

@@ -13,7 +13,7 @@ pub use laws::{
     spelled_file_is_saved, spelled_once_or_faulty,
 };
 pub use reading::read_state;
-pub use state_rows::{
+pub use snapshot_rows::{
     ClaimRow, MessageRow, OrphanRow, PageRow, ProcRow, ServerRow, State, ThreadRow,
 };
 pub use writing::rows::{

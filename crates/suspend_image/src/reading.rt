@@ -16,9 +16,9 @@ ghost use Rattle.suspend_image.specs.Forms.{Spells};
 ghost use Rattle.suspend_image.specs.StateFaults.{state_at, is_not_state as is_not_state_of, is_bad_state_check, header_faults};
 ghost use Rattle.suspend_image.specs.StateFaults.{state_fault, IsFault};
 ghost use Rattle.machine_model.specs.Runs.Matched.{Matched};
-ghost use Rattle.state_rows.specs.Machines.{machine_of};
+ghost use Rattle.snapshot_rows.specs.Machines.{machine_of};
 ghost use Rattle.suspend_image.specs.FileFaults.{IsRefused, state_unmatched};
-ghost use Rattle.state_matching.specs.UnmatchedParts.{number_of};
+ghost use Rattle.snapshot_matching.specs.UnmatchedParts.{number_of};
 ghost use Rattle.suspend_image.specs.declared.faults.StateError.TheVariants.{Fault};
 
 use crate::faults::{
@@ -34,8 +34,8 @@ use crate::reading::threads::front_threads;
 use crate::reading::words::word;
 use byteorder::{ByteOrder, LittleEndian};
 use kernel_args::{ArgFault, crc_x25};
-use state_matching::{Part, first_unmatched};
-use state_rows::State;
+use snapshot_matching::{Part, first_unmatched};
+use snapshot_rows::State;
 use std::alloc::Global;
 
 /// The bytes in front of the parts of a state: its name, its length and its check number.

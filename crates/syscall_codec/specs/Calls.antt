@@ -1,15 +1,15 @@
 -- Which call eight words ask for.
 use Rattle.std.specs.Prelude.{◌≡◌, ℕ, List}
-use Rattle.xk_base.specs.Calls.CallNumbers.{map_memory, yield_turn, claim_interrupt, free_interrupt, increase_heap, decrease_heap}
-use Rattle.xk_base.specs.Calls.CallNumbers.{update_memory_flags, create_server_with_address, receive_message, send_message, connect}
-use Rattle.xk_base.specs.Calls.CallNumbers.{create_thread, unmap_memory, return_memory, terminate_process, try_send_message, try_connect}
-use Rattle.xk_base.specs.Calls.CallNumbers.{return_scalar1, return_scalar2, try_receive_message, join_thread, destroy_server, get_thread_id}
-use Rattle.xk_base.specs.Calls.CallNumbers.{get_process_id, forward_message}
-use Rattle.xk_base.specs.Calls.CallWords.{call_number, map_phys, map_virt, map_size, map_flags, interrupt_number, interrupt_handler}
-use Rattle.xk_base.specs.Calls.CallWords.{interrupt_argument, heap_bytes, range_address, range_size, range_flags, sid_words, send_cid}
-use Rattle.xk_base.specs.Calls.CallWords.{send_kind, send_id, send_words, thread_entry, thread_sp, thread_arguments, return_token}
-use Rattle.xk_base.specs.Calls.CallWords.{return_address, return_size, return_offset, return_valid, return_value1, return_value2}
-use Rattle.xk_base.specs.Calls.CallWords.{forward_token, forward_cid, exit_word, join_tid}
+use Rattle.syscall_codec.specs.CallNumbers.{map_memory, yield_turn, claim_interrupt, free_interrupt, increase_heap, decrease_heap}
+use Rattle.syscall_codec.specs.CallNumbers.{update_memory_flags, create_server_with_address, receive_message, send_message, connect}
+use Rattle.syscall_codec.specs.CallNumbers.{create_thread, unmap_memory, return_memory, terminate_process, try_send_message, try_connect}
+use Rattle.syscall_codec.specs.CallNumbers.{return_scalar1, return_scalar2, try_receive_message, join_thread, destroy_server, get_thread_id}
+use Rattle.syscall_codec.specs.CallNumbers.{get_process_id, forward_message}
+use Rattle.syscall_codec.specs.CallWords.{call_number, map_phys, map_virt, map_size, map_flags, interrupt_number, interrupt_handler}
+use Rattle.syscall_codec.specs.CallWords.{interrupt_argument, heap_bytes, range_address, range_size, range_flags, sid_words, send_cid}
+use Rattle.syscall_codec.specs.CallWords.{send_kind, send_id, send_words, thread_entry, thread_sp, thread_arguments, return_token}
+use Rattle.syscall_codec.specs.CallWords.{return_address, return_size, return_offset, return_valid, return_value1, return_value2}
+use Rattle.syscall_codec.specs.CallWords.{forward_token, forward_cid, exit_word, join_tid}
 use Rattle.syscall_codec.specs.declared.calls.Call.{Call}
 use Rattle.syscall_codec.specs.declared.calls.Call.TheVariants.{MapMemory, Yield, ClaimInterrupt, FreeInterrupt, IncreaseHeap, DecreaseHeap}
 use Rattle.syscall_codec.specs.declared.calls.Call.TheVariants.{UpdateMemoryFlags, CreateServerWithAddress, ReceiveMessage, SendMessage}

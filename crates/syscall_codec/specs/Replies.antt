@@ -1,7 +1,7 @@
 -- The words of each reply.
 use Rattle.std.specs.Prelude.{ℕ, List}
-use Rattle.xk_base.specs.Calls.Replies.{plain_words, refused_words, range_words, connection_words, new_server_words, message_words}
-use Rattle.xk_base.specs.Calls.Replies.{thread_words, scalar1_words, scalar2_words, returned_words}
+use Rattle.syscall_codec.specs.ReplyWords.{plain_words, refused_words, range_words, connection_words, new_server_words, message_words}
+use Rattle.syscall_codec.specs.ReplyWords.{thread_words, scalar1_words, scalar2_words, returned_words}
 use Rattle.syscall_codec.specs.declared.replies.Reply.{Reply}
 use Rattle.syscall_codec.specs.declared.replies.Reply.TheVariants.{Plain, Refused, Range, Connection, NewServer, Got, Thread, Scalar1}
 use Rattle.syscall_codec.specs.declared.replies.Reply.TheVariants.{Scalar2, Returned}

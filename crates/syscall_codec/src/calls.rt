@@ -1,7 +1,7 @@
 //! The system calls, and which of them an interrupt handler may not make.
 
 ghost use Rattle.std.specs.Prelude.{◌≡◌, ℕ, List};
-ghost use Rattle.xk_base.specs.Calls.CallWords.{is_refused_to_handler};
+ghost use Rattle.syscall_codec.specs.CallWords.{is_refused_to_handler};
 ghost use Rattle.syscall_codec.specs.Calls.{Asks};
 
 use xk_base::Sid;

@@ -1,9 +1,9 @@
 //! From a call to its eight words.
 
 ghost use Rattle.std.specs.Prelude.{◌≡◌, ◌-◌, [], ◌∷◌, drop, replicate};
-ghost use Rattle.xk_base.specs.Calls.CallNumbers.{create_thread};
-ghost use Rattle.xk_base.specs.Calls.CallWords.{call_number, sid_words, send_cid, send_kind, send_id, send_words as sent_words};
-ghost use Rattle.xk_base.specs.Calls.CallWords.{thread_entry, thread_sp, thread_arguments};
+ghost use Rattle.syscall_codec.specs.CallNumbers.{create_thread};
+ghost use Rattle.syscall_codec.specs.CallWords.{call_number, sid_words, send_cid, send_kind, send_id, send_words as sent_words};
+ghost use Rattle.syscall_codec.specs.CallWords.{thread_entry, thread_sp, thread_arguments};
 ghost use Rattle.syscall_codec.specs.Calls.{Asks, named_words};
 
 use crate::calls::Call;

@@ -1,8 +1,8 @@
 //! The flags of memory that MapMemory and UpdateMemoryFlags take.
 
 ghost use Rattle.std.specs.Prelude.{⊤, ◌≡◌, ◌↔◌, [], ◌∷◌, codes, IsTrue, IsSome, IfSome};
-ghost use Rattle.xk_base.specs.Calls.Flags.{flag_reserve, flag_read, flag_write, flag_execute, flag_device, are_known_flags, has_flag};
-ghost use Rattle.xk_base.specs.Calls.Flags.{right_of};
+ghost use Rattle.syscall_codec.specs.Flags.{flag_reserve, flag_read, flag_write, flag_execute, flag_device, are_known_flags, has_flag};
+ghost use Rattle.syscall_codec.specs.Flags.{right_of};
 ghost use Rattle.syscall_codec.specs.MapFlags.{bits_of};
 
 use bitflags::{Flag, Flags, bitflag_items};

@@ -1,4 +1,5 @@
-//! System calls and their replies as eight words, in registers a0 to a7, and back.
+//! System calls and their replies as eight words, in registers a0 to a7, and back: the number of each call, what its words are, and
+//! which call eight words ask for.
 #![tactic(auto)]
 
 mod calls;

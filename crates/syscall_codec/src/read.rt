@@ -2,8 +2,8 @@
 
 ghost use Rattle.std.specs.Prelude.{◌≡◌, ◌==◌, ◌↔◌, IfOk, OnErr, IfSome, IsNone, false};
 ghost use Rattle.std.specs.List.{list_any};
-ghost use Rattle.xk_base.specs.Calls.CallNumbers.{is_call_number};
-ghost use Rattle.xk_base.specs.Calls.CallWords.{call_number, sid_words};
+ghost use Rattle.syscall_codec.specs.CallNumbers.{is_call_number};
+ghost use Rattle.syscall_codec.specs.CallWords.{call_number, sid_words};
 ghost use Rattle.syscall_codec.specs.declared.calls.Call.{Call};
 ghost use Rattle.syscall_codec.specs.Calls.{Asks};
 ghost use Rattle.syscall_codec.specs.Families.{memory_numbers, server_numbers, message_numbers, thread_numbers};

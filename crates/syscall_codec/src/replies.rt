@@ -1,7 +1,7 @@
 //! The replies to system calls.
 
 ghost use Rattle.std.specs.Prelude.{◌≡◌};
-ghost use Rattle.xk_base.specs.Calls.Replies.{new_server_words as spelled_server, message_words as spelled_message};
+ghost use Rattle.syscall_codec.specs.ReplyWords.{new_server_words as spelled_server, message_words as spelled_message};
 ghost use Rattle.syscall_codec.specs.Replies.{words_of};
 
 use xk_base::{Cid, Message, Sid, Tid, XousError};

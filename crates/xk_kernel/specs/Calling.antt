@@ -11,11 +11,11 @@ use Rattle.machine_model.specs.State.Order.{ready_at}
 use Rattle.machine_model.specs.State.Threads.{answer_to}
 use Rattle.sv32_space.specs.Tie.{Held}
 use Rattle.syscall_codec.specs.Replies.{words_of}
-use Rattle.xk_base.specs.Calls.CallNumbers.{map_memory, yield_turn, claim_interrupt, free_interrupt, increase_heap, decrease_heap}
-use Rattle.xk_base.specs.Calls.CallNumbers.{update_memory_flags, create_server_with_address, connect, create_thread, unmap_memory}
-use Rattle.xk_base.specs.Calls.CallNumbers.{try_connect, join_thread, get_thread_id, get_process_id}
-use Rattle.xk_base.specs.Calls.CallWords.{call_number, is_refused_to_handler}
-use Rattle.xk_base.specs.Calls.Replies.{connection_words}
+use Rattle.syscall_codec.specs.CallNumbers.{map_memory, yield_turn, claim_interrupt, free_interrupt, increase_heap, decrease_heap}
+use Rattle.syscall_codec.specs.CallNumbers.{update_memory_flags, create_server_with_address, connect, create_thread, unmap_memory}
+use Rattle.syscall_codec.specs.CallNumbers.{try_connect, join_thread, get_thread_id, get_process_id}
+use Rattle.syscall_codec.specs.CallWords.{call_number, is_refused_to_handler}
+use Rattle.syscall_codec.specs.ReplyWords.{connection_words}
 use Rattle.xk_base.specs.Tables.Connections.{cid_for, has_room}
 use Rattle.xk_base.specs.declared.errors.XousError.{XousError}
 use Rattle.xk_base.specs.declared.errors.XousError.TheVariants.{InvalidLimit}

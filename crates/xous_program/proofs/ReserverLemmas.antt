@@ -25,10 +25,10 @@ use Rattle.machine_model.specs.Stepping.Step.{acted, acted_if_there, counted, en
 use Rattle.machine_model.specs.Stepping.Step.{reservation_left, reservation_left_if_there, step, step_by, step_by_if}
 use Rattle.machine_model.proofs.Runs.TimerLemmas.{pended_raised, timed_raised}
 use Rattle.xk_base.specs.declared.events.Event.{Event}
-use Rattle.machine_history.specs.History.{history}
-use Rattle.machine_history.specs.HistoryMoments.{moments_of}
-use Rattle.machine_history.proofs.Histories.MomentLemmas.{history_is_run, history_last, moments_matched}
-use Rattle.machine_history.specs.Reserved.{IsReservedByThread}
+use Rattle.machine_laws.specs.History.{history}
+use Rattle.machine_laws.specs.HistoryMoments.{moments_of}
+use Rattle.machine_laws.proofs.Histories.MomentLemmas.{history_is_run, history_last, moments_matched}
+use Rattle.machine_laws.specs.Reserved.{IsReservedByThread}
 
 -- ---- one instruction
 

@@ -1,7 +1,7 @@
 -- THE HEADLINE: what became of a call of the program, whatever its words and files are and whatever fails outside.
 use Rattle.std.specs.Prelude.{◌≡◌, ◌⊎◌, ℕ, List, Option, Some, None}
 use Rattle.event_text.specs.EventFile.{input_of}
-use Rattle.machine_history.specs.HistoryMoments.{moments_of}
+use Rattle.machine_laws.specs.HistoryMoments.{moments_of}
 use Rattle.machine_model.specs.Runs.LoanSpan.{LoanSpan}
 use Rattle.machine_model.specs.Runs.Matched.{Matched}
 use Rattle.machine_model.specs.Runs.Moments.{Moment, state_at}

@@ -4,9 +4,9 @@ use Rattle.kernel_args.specs.declared.faults.ArgFault.{ArgFault}
 use Rattle.boot_plan.specs.FaultNumbers.{too_long}
 use Rattle.program_status.specs.FaultNames.{bad_split}
 use Rattle.machine_model.specs.State.Machine.{Machine}
-use Rattle.state_rows.specs.declared.state.State.{State}
+use Rattle.snapshot_rows.specs.declared.state.State.{State}
 use Rattle.suspend_image.specs.FileFaults.{IsFirstFault}
-use Rattle.state_rows.specs.Machines.{machine_of}
+use Rattle.snapshot_rows.specs.Machines.{machine_of}
 use Rattle.xk_base.specs.declared.limits.TheConstants.{FRAME_LIMIT}
 use Rattle.resume_path.specs.Resumable.{CanSplit, IsResumable, resumed_frames}
 use Rattle.xous_program.specs.declared.commands.states.TheConstants.{STATE_LIMIT}

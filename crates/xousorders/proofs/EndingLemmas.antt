@@ -11,23 +11,23 @@ use Rattle.std.proofs.lemmas.List.Elements.{All-append, All-cons, All-nil, filte
 use Rattle.std.proofs.lemmas.Option.{none-some, same_Some, slice_get_read, slice_get_within}
 use Rattle.std.proofs.lemmas.Slice.Eq.{bytes_eq-Decides}
 use Rattle.machine_model.specs.Runs.Matched.{Matched}
-use Rattle.node_laws.proofs.Moving.SearchLemmas.{paths_are_orders}
-use Rattle.node_laws.proofs.Moving.SeenLemmas.{nodes_are_seen_alike}
-use Rattle.node_laws.specs.declared.moves.Move.{Move}
-use Rattle.node_laws.specs.declared.moves.Note.{Note}
-use Rattle.node_laws.specs.declared.moves.Note.TheVariants.{Ending as IsEnd, Inner}
-use Rattle.node_laws.specs.Endings.{seen_of}
-use Rattle.node_laws.specs.Moves.{Point, leads_by}
-use Rattle.node_laws.specs.Nodes.{after, node_of}
-use Rattle.node_laws.specs.Searches.{IsSound, IsToldOrder, Telling, note_of}
-use Rattle.order_space.specs.declared.subject.Subject.{Subject}
-use Rattle.order_space.specs.Found.{DigestsTell, TellsAllOrders, TellsOrders, telling_of}
-use Rattle.order_space.specs.Quests.{searching_of, start_of}
-use Rattle.seen_text.specs.Texts.{seen_text}
-use Rattle.state_search.specs.declared.found.Edge.{Edge}
-use Rattle.state_search.proofs.ListLemmas.{IsBehind, front_or_behind, slice_get-behind, slice_get-front}
-use Rattle.state_search.specs.Paths.{labels_to}
-use Rattle.state_search.specs.Told.{IsFound}
+use Rattle.order_model.proofs.Moving.SearchLemmas.{paths_are_orders}
+use Rattle.order_model.proofs.Moving.SeenLemmas.{nodes_are_seen_alike}
+use Rattle.order_model.specs.declared.moves.Move.{Move}
+use Rattle.order_model.specs.declared.moves.Note.{Note}
+use Rattle.order_model.specs.declared.moves.Note.TheVariants.{Ending as IsEnd, Inner}
+use Rattle.order_model.specs.Endings.{seen_of}
+use Rattle.order_model.specs.Moves.{Point, leads_by}
+use Rattle.order_model.specs.Nodes.{after, node_of}
+use Rattle.order_model.specs.Searches.{IsSound, IsToldOrder, Telling, note_of}
+use Rattle.order_search.specs.declared.subject.Subject.{Subject}
+use Rattle.order_search.specs.Found.{DigestsTell, TellsAllOrders, TellsOrders, telling_of}
+use Rattle.order_search.specs.Quests.{searching_of, start_of}
+use Rattle.order_text.specs.Texts.{seen_text}
+use Rattle.graph_search.specs.declared.found.Edge.{Edge}
+use Rattle.graph_search.proofs.ListLemmas.{IsBehind, front_or_behind, slice_get-behind, slice_get-front}
+use Rattle.graph_search.specs.Paths.{labels_to}
+use Rattle.graph_search.specs.Told.{IsFound}
 use Rattle.xk_base.proofs.CountingLemmas.{count_below-none}
 use Rattle.xk_base.specs.Tables.Counting.{count_below, listed_below}
 use Rattle.xousorders.specs.Endings.{Adds, AreDifferent, AreEndings, IsAt, IsEndingOf, IsLook, IsNew, Lists, NoneIs, TellsAllEndings, TellsEndings}

@@ -4,9 +4,9 @@ use Rattle.std.specs.Prelude.{slice_get}
 use Rattle.std.specs.Option.{option_map_or}
 use Rattle.std.proofs.lemmas.List.{append-nil}
 use Rattle.std.proofs.lemmas.Grind.{flat_map-append}
-use Rattle.node_laws.specs.declared.moves.Move.{Move}
-use Rattle.node_laws.specs.declared.moves.Move.TheVariants.{Once}
-use Rattle.node_laws.specs.Moves.{Asked, events_of, events_of_move}
+use Rattle.order_model.specs.declared.moves.Move.{Move}
+use Rattle.order_model.specs.declared.moves.Move.TheVariants.{Once}
+use Rattle.order_model.specs.Moves.{Asked, events_of, events_of_move}
 use Rattle.xk_base.specs.declared.events.Event.{Event}
 
 -- an event of no number plays nothing

@@ -1,9 +1,9 @@
 -- Rows of a state that a file spells can be told.
 use Rattle.std.proofs.Common.{ℕ, List}
 use Rattle.machine_model.specs.Runs.Matched.{Matched}
-use Rattle.seen_text.specs.Rows.{AreTellable}
-use Rattle.state_rows.specs.declared.state.State.{State}
-use Rattle.state_rows.specs.Machines.{machine_of}
+use Rattle.order_text.specs.Rows.{AreTellable}
+use Rattle.snapshot_rows.specs.declared.state.State.{State}
+use Rattle.snapshot_rows.specs.Machines.{machine_of}
 use Rattle.suspend_image.proofs.FaultLemmas.{rows_in_order}
 use Rattle.suspend_image.specs.Forms.{Spells}
 

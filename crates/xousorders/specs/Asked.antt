@@ -6,7 +6,7 @@ use Rattle.boot_plan.specs.declared.plans.BootPlan.{BootPlan}
 use Rattle.host_io.specs.Reading.{IsFile}
 use Rattle.kernel_args.specs.declared.args.Args.{Args}
 use Rattle.kernel_args.specs.declared.faults.ArgFault.{ArgFault}
-use Rattle.order_space.specs.declared.subject.Subject.{Subject}
+use Rattle.order_search.specs.declared.subject.Subject.{Subject}
 use Rattle.xk_base.specs.declared.events.Event.{Event}
 use Rattle.xk_base.specs.declared.limits.TheConstants.{EVENT_FILE_LIMIT, STEP_LIMIT}
 use Rattle.program_status.specs.Plans.{IsSoundImage}

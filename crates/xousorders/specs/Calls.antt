@@ -2,17 +2,17 @@
 use Rattle.std.specs.Prelude.{◌≡◌, ◌⊎◌, ◌+◌, ◌++◌, ℕ, Bool, true, false, List, length, Option}
 use Rattle.std.specs.Option.{option_copied}
 use Rattle.std.specs.declared.cmp.Ordering.{Ordering}
-use Rattle.node_laws.specs.declared.moves.Move.{Move}
-use Rattle.node_laws.specs.declared.moves.Note.{Note}
-use Rattle.node_laws.specs.Searches.{IsSound, Telling}
+use Rattle.order_model.specs.declared.moves.Move.{Move}
+use Rattle.order_model.specs.declared.moves.Note.{Note}
+use Rattle.order_model.specs.Searches.{IsSound, Telling}
 use Rattle.program_status.specs.declared.status.Status.{Status}
 use Rattle.program_status.specs.declared.status.Status.TheVariants.{Done, WriteFault}
-use Rattle.order_space.specs.declared.subject.Subject.{Subject}
-use Rattle.order_space.specs.Found.{DigestsTell, telling_of}
-use Rattle.order_space.specs.Quests.{searching_of}
-use Rattle.state_search.specs.declared.found.Edge.{Edge}
-use Rattle.state_search.specs.declared.found.Extent.{Extent}
-use Rattle.state_search.specs.declared.found.Extent.TheVariants.{Whole}
+use Rattle.order_search.specs.declared.subject.Subject.{Subject}
+use Rattle.order_search.specs.Found.{DigestsTell, telling_of}
+use Rattle.order_search.specs.Quests.{searching_of}
+use Rattle.graph_search.specs.declared.found.Edge.{Edge}
+use Rattle.graph_search.specs.declared.found.Extent.{Extent}
+use Rattle.graph_search.specs.declared.found.Extent.TheVariants.{Whole}
 use Rattle.xk_base.specs.Outside.{Rose}
 use Rattle.xk_ports.specs.declared.host.Host.{Ghosts as Host}
 use Rattle.xk_ports.specs.declared.sink.Sink.{Ghosts as Sink}

@@ -2,16 +2,16 @@
 use Rattle.std.specs.Prelude.{◌≡◌, ◌<◌, ◌≤◌, ◌==◌, ◌&&◌, ◌⊎◌, ◌++◌, ℕ, Bool, true, false, List, [], ◌∷◌, All, filter, length, map, slice_get, Some}
 use Rattle.std.specs.Option.{option_map_or}
 use Rattle.std.specs.Str.{bytes_eq}
-use Rattle.node_laws.specs.declared.moves.Move.{Move}
-use Rattle.node_laws.specs.declared.moves.Note.{Note}
-use Rattle.node_laws.specs.declared.moves.Note.TheVariants.{Ending as IsEnd, Inner}
-use Rattle.node_laws.specs.Endings.{is_ending, seen_of}
-use Rattle.node_laws.specs.Moves.{Point, leads_by}
-use Rattle.node_laws.specs.Nodes.{after, node_of}
-use Rattle.node_laws.specs.Searches.{Telling}
-use Rattle.seen_text.specs.Texts.{seen_text}
-use Rattle.state_search.specs.Paths.{labels_to}
-use Rattle.state_search.specs.Told.{IsFound}
+use Rattle.order_model.specs.declared.moves.Move.{Move}
+use Rattle.order_model.specs.declared.moves.Note.{Note}
+use Rattle.order_model.specs.declared.moves.Note.TheVariants.{Ending as IsEnd, Inner}
+use Rattle.order_model.specs.Endings.{is_ending, seen_of}
+use Rattle.order_model.specs.Moves.{Point, leads_by}
+use Rattle.order_model.specs.Nodes.{after, node_of}
+use Rattle.order_model.specs.Searches.{Telling}
+use Rattle.order_text.specs.Texts.{seen_text}
+use Rattle.graph_search.specs.Paths.{labels_to}
+use Rattle.graph_search.specs.Told.{IsFound}
 use Rattle.xk_base.specs.Tables.Counting.{count_below, listed_below}
 use Rattle.xousorders.specs.declared.endings.Ending.{Ending}
 use Rattle.xousorders.specs.declared.endings.Endings.{Endings}

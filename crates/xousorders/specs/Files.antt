@@ -1,9 +1,9 @@
 -- Event files of orders.
 use Rattle.std.specs.Prelude.{ℕ, List, [], ◌∷◌, ◌++◌, if◌then◌else◌}
-use Rattle.event_lines.specs.Spelling.{event_lines}
+use Rattle.event_text.specs.Spelling.{event_lines}
 use Rattle.event_text.specs.Lines.{is_last}
-use Rattle.node_laws.specs.declared.moves.Move.{Move}
-use Rattle.node_laws.specs.Moves.{Asked, events_of}
+use Rattle.order_model.specs.declared.moves.Move.{Move}
+use Rattle.order_model.specs.Moves.{Asked, events_of}
 
 -- the last line ends with a line feed too
 abbrev pub with_feed : List ℕ → List ℕ

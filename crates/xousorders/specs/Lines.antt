@@ -1,10 +1,10 @@
 -- The lines of what a search found.
 use Rattle.std.specs.Prelude.{ℕ, zero, suc, ◌+◌, ◌==◌, Bool, true, false, List, [], ◌++◌, codes, decimal, filter, if◌then◌else◌, length, slice_get}
 use Rattle.std.specs.Option.{option_map_or}
-use Rattle.node_laws.specs.declared.moves.Move.{Move}
-use Rattle.node_laws.specs.declared.moves.Move.TheVariants.{Once, Slice}
-use Rattle.state_search.specs.declared.found.Extent.{Extent}
-use Rattle.state_search.specs.declared.found.Extent.TheVariants.{Cut, Whole}
+use Rattle.order_model.specs.declared.moves.Move.{Move}
+use Rattle.order_model.specs.declared.moves.Move.TheVariants.{Once, Slice}
+use Rattle.graph_search.specs.declared.found.Extent.{Extent}
+use Rattle.graph_search.specs.declared.found.Extent.TheVariants.{Cut, Whole}
 use Rattle.xousorders.specs.Endings.{looks_at}
 use Rattle.xousorders.specs.declared.endings.Endings.{Endings}
 

@@ -1,6 +1,6 @@
 -- Which orders were searched, and what is told of them.
 use Rattle.std.specs.Prelude.{◌≡◌, ◌⊎◌, ℕ, Some}
-use Rattle.order_space.specs.declared.subject.Subject.{Subject}
+use Rattle.order_search.specs.declared.subject.Subject.{Subject}
 
 -- the same orders with a bound of steps
 abbrev pub bounded : ℕ → Subject → Subject

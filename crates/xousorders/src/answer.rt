@@ -4,9 +4,9 @@ ghost use Rattle.std.specs.Prelude.{◌≡◌, ◌++◌, OnOk};
 ghost use Rattle.xousorders.specs.Lines.{counted, ending_counts, ending_head, ending_line, endings_text, extent_line, slices_in};
 
 use crate::endings::{Ending, Endings, count_looks};
-use node_laws::Move;
-use seen_text::{put, put_number};
-use state_search::{Cut, Extent};
+use graph_search::{Cut, Extent};
+use order_model::Move;
+use order_text::{put, put_number};
 use std::alloc::AllocError;
 
 /// A number with its noun.

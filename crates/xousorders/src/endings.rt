@@ -1,19 +1,19 @@
 //! The endings of a search: those that look alike are one.
 
 ghost use Rattle.std.specs.Prelude.{◌≡◌, ◌<◌, ◌+◌, IfErr, IfSome, IfOk, OnOk, None, Some, length, slice_get};
-ghost use Rattle.node_laws.specs.Searches.{IsSound};
-ghost use Rattle.node_laws.specs.declared.moves.Note.TheVariants.{Ending as IsEnd};
-ghost use Rattle.order_space.specs.Found.{TellsOrders, telling_of};
-ghost use Rattle.order_space.specs.Quests.{searching_of};
+ghost use Rattle.order_model.specs.Searches.{IsSound};
+ghost use Rattle.order_model.specs.declared.moves.Note.TheVariants.{Ending as IsEnd};
+ghost use Rattle.order_search.specs.Found.{TellsOrders, telling_of};
+ghost use Rattle.order_search.specs.Quests.{searching_of};
 ghost use Rattle.xousorders.specs.Endings.{Adds, AreEndings, IsAt, Lists, NoneIs, looks_at};
 ghost use Rattle.xousorders.specs.Outcomes.{IsStopped};
 
 use crate::outcome::stopped;
-use node_laws::{Move, Note};
-use order_space::{Quest, Stand};
+use graph_search::{Found, Unanswered, path_to};
+use order_model::{Move, Note};
+use order_search::{Quest, Stand};
+use order_text::put_seen;
 use program_status::Status;
-use seen_text::put_seen;
-use state_search::{Found, Unanswered, path_to};
 use std::alloc::{AllocError, Global};
 
 /// An ending that looks different from those before it: the number of the first node that looks so, and the order to it.

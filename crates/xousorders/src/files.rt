@@ -1,13 +1,13 @@
 //! Orders are written as event files.
 
 ghost use Rattle.std.specs.Prelude.{◌≡◌, ◌++◌, IfErr, IfOk, OnOk, slice_get};
-ghost use Rattle.node_laws.specs.Moves.{Asked, events_of as events_in, events_of_move};
+ghost use Rattle.order_model.specs.Moves.{Asked, events_of as events_in, events_of_move};
 ghost use Rattle.xousorders.specs.Files.{order_file, with_feed};
 ghost use Rattle.xousorders.specs.Outcomes.{IsUnfiled};
 
 use crate::endings::Ending;
-use event_lines::event_file;
-use node_laws::Move;
+use event_text::event_file;
+use order_model::Move;
 use program_status::Status;
 use std::alloc::{AllocError, Global};
 use std::fs;

@@ -4,7 +4,7 @@ ghost use Rattle.std.specs.Prelude.{◌≡◌, length};
 ghost use Rattle.xousorders.specs.Outcomes.{IsStopped, is_several, number_of, outcome_of};
 
 use crate::endings::Endings;
-use order_space::OrderFault;
+use order_search::OrderFault;
 use program_status::Status;
 use xk_base::limits::STEP_LIMIT;
 

@@ -2,9 +2,9 @@
 
 ghost use Rattle.std.specs.Option.{option_copied};
 ghost use Rattle.std.specs.Prelude.{◌≡◌, ◌≤◌, ◌+◌, ◌++◌, ℕ, IfErr, IfOk, length};
-ghost use Rattle.node_laws.specs.Searches.{IsSound};
-ghost use Rattle.order_space.specs.Found.{DigestsTell, TellsAllOrders, TellsOrders, telling_of};
-ghost use Rattle.order_space.specs.Quests.{searching_of};
+ghost use Rattle.order_model.specs.Searches.{IsSound};
+ghost use Rattle.order_search.specs.Found.{DigestsTell, TellsAllOrders, TellsOrders, telling_of};
+ghost use Rattle.order_search.specs.Quests.{searching_of};
 ghost use Rattle.xk_base.specs.Outside.{Rose};
 ghost use Rattle.xousorders.specs.Asked.{IsAsked, Stops, asking_of};
 ghost use Rattle.xousorders.specs.Calls.{Ends, TellsSearch, command_in, sides_of};
@@ -20,11 +20,10 @@ use crate::image::{read_events, read_image};
 use crate::outcome::{Outcome, ended, stopped};
 use crate::watching::Teller;
 use crate::words::Words;
-use node_laws::{Move, Note};
-use order_choices::Orders;
-use order_space::{OrderFault, Quest, Subject, search_orders};
+use graph_search::{Extent, Found, Watch};
+use order_model::{Move, Note, Orders};
+use order_search::{OrderFault, Quest, Subject, search_orders};
 use program_status::{Planned, Status, plan_bytes};
-use state_search::{Extent, Found, Watch};
 use std::alloc::{AllocError, Global};
 use std::rt::{Clock, Files};
 use xk_base::Event;

@@ -3,8 +3,8 @@
 ghost use Rattle.std.specs.Prelude.{◌≤◌, ◌+◌, length};
 ghost use Rattle.arrayvec.specs.ArrayVec.{array_vec_len};
 
+use graph_search::{Progress, Watch};
 use host_io::text::{Line, put, put_number};
-use state_search::{Progress, Watch};
 use std::rt::Clock;
 use std::time::Instant;
 use xk_ports::{Sink, put_all};

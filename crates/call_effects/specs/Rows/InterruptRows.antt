@@ -1,7 +1,7 @@
 -- The verdicts on ClaimInterrupt and FreeInterrupt: the tests in their order, then the claim.
 use Rattle.std.specs.Prelude.{[], ◌∷◌}
-use Rattle.xk_base.specs.Calls.CallWords.{interrupt_argument, interrupt_handler, interrupt_number}
-use Rattle.xk_base.specs.Calls.Replies.{plain_words}
+use Rattle.syscall_codec.specs.CallWords.{interrupt_argument, interrupt_handler, interrupt_number}
+use Rattle.syscall_codec.specs.ReplyWords.{plain_words}
 use Rattle.machine_model.specs.Calling.InterruptCalls.{claim_refusals, free_refusals}
 use Rattle.machine_model.specs.State.Machine.{Claim}
 use Rattle.call_effects.specs.Effects.{Claims, Frees}

@@ -1,9 +1,9 @@
 -- The verdicts on the five calls on memory: the tests in their order, then the pages and the reply.
 use Rattle.std.specs.Prelude.{◌+◌, ◌-◌, ◌/◌, ◌==◌, true, false, [], ◌∷◌}
 use Rattle.xk_base.specs.declared.limits.TheConstants.{CONSOLE_ADDRESS, PAGE_SIZE}
-use Rattle.xk_base.specs.Calls.CallWords.{heap_bytes, map_flags, map_phys, map_size, map_virt, range_address, range_flags, range_size}
-use Rattle.xk_base.specs.Calls.Flags.{right_of}
-use Rattle.xk_base.specs.Calls.Replies.{plain_words, range_words}
+use Rattle.syscall_codec.specs.CallWords.{heap_bytes, map_flags, map_phys, map_size, map_virt, range_address, range_flags, range_size}
+use Rattle.syscall_codec.specs.Flags.{right_of}
+use Rattle.syscall_codec.specs.ReplyWords.{plain_words, range_words}
 use Rattle.machine_model.specs.Calling.MemoryCalls.{caller_place, decrease_refusals, heap_of, heap_start, increase_refusals, map_address}
 use Rattle.machine_model.specs.Calling.MemoryCalls.{map_refusals, unmap_refusals, update_refusals}
 use Rattle.call_effects.specs.Effects.{HasHeap, Maps, Pages, Reduces, Removes}

@@ -7,10 +7,10 @@ use Rattle.xk_base.specs.declared.ids.ThreadId.{ThreadId}
 use Rattle.xk_base.specs.declared.ids.Vpn.{Vpn}
 use Rattle.xk_base.specs.declared.messages.Message.{Message}
 use Rattle.xk_base.specs.declared.messages.MsgKind.TheVariants.{Scalar}
-use Rattle.xk_base.specs.Calls.CallWords.{forward_cid, return_address, return_offset, return_size, return_valid, return_value1}
-use Rattle.xk_base.specs.Calls.CallWords.{return_value2, send_address}
+use Rattle.syscall_codec.specs.CallWords.{forward_cid, return_address, return_offset, return_size, return_valid, return_value1}
+use Rattle.syscall_codec.specs.CallWords.{return_value2, send_address}
 use Rattle.xk_base.specs.Calls.Kinds.{is_answered}
-use Rattle.xk_base.specs.Calls.Replies.{message_words, plain_words, returned_words, scalar1_words, scalar2_words}
+use Rattle.syscall_codec.specs.ReplyWords.{message_words, plain_words, returned_words, scalar1_words, scalar2_words}
 use Rattle.xk_base.specs.Tables.Sids.{serial_of}
 use Rattle.machine_model.specs.Calling.MemoryCalls.{caller_place}
 use Rattle.machine_model.specs.Calling.ServerCalls.{named_server, named_sid, own_server_refusals}

@@ -1,7 +1,7 @@
 -- The verdicts on the calls that make, find and end servers.
 use Rattle.std.specs.Prelude.{ℕ, ◌==◌, Bool, [], ◌∷◌}
 use Rattle.xk_base.specs.declared.errors.XousError.TheVariants.{ServerNotFound}
-use Rattle.xk_base.specs.Calls.Replies.{connection_words, new_server_words, plain_words}
+use Rattle.syscall_codec.specs.ReplyWords.{connection_words, new_server_words, plain_words}
 use Rattle.xk_base.specs.Tables.Connections.{cid_for}
 use Rattle.machine_model.specs.Calling.ServerCalls.{connect_refusals, create_server_refusals, is_missing, named_server, named_sid}
 use Rattle.machine_model.specs.Calling.ServerCalls.{new_serial, new_server, own_server_refusals}

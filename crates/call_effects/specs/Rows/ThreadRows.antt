@@ -1,8 +1,8 @@
 -- The verdicts on the calls on threads and on the caller's process.
 use Rattle.std.specs.Prelude.{ℕ, Bool, unwrap_or, [], ◌∷◌, Some}
 use Rattle.xk_base.specs.declared.ids.Pid.{Pid}
-use Rattle.xk_base.specs.Calls.CallWords.{join_tid, thread_arguments, thread_entry, thread_sp}
-use Rattle.xk_base.specs.Calls.Replies.{plain_words, scalar1_words, thread_words}
+use Rattle.syscall_codec.specs.CallWords.{join_tid, thread_arguments, thread_entry, thread_sp}
+use Rattle.syscall_codec.specs.ReplyWords.{plain_words, scalar1_words, thread_words}
 use Rattle.machine_model.specs.Calling.ThreadCalls.{create_refusals, free_tid, join_refusals}
 use Rattle.machine_model.specs.Ending.Closing.{is_sender_at, refused_server}
 use Rattle.machine_model.specs.State.Machine.{Joining, Machine}

@@ -19,16 +19,16 @@ use Rattle.event_player.specs.declared.ending.Ending.TheVariants.{Played, BadLin
 use Rattle.event_player.specs.declared.events.Advance.{Advance}
 use Rattle.event_player.specs.declared.events.PlayFault.{PlayFault}
 use Rattle.event_player.specs.declared.events.PlayFault.TheVariants.{Write, Swap}
-use Rattle.machine_history.specs.History as kernel
-use Rattle.machine_history.specs.History.{history, play}
-use Rattle.machine_history.specs.HistoryMoments.{event_moments, moments_of}
+use Rattle.machine_laws.specs.History as kernel
+use Rattle.machine_laws.specs.History.{history, play}
+use Rattle.machine_laws.specs.HistoryMoments.{event_moments, moments_of}
 use Rattle.event_player.specs.History.{History, MayEnd, with_ending, history_of, end_of}
 use Rattle.event_player.specs.Rooms.{ComesFull}
 use Rattle.event_player.specs.Playing.{Advances, Comes, EndsAtNoLine, EndsSo, FailsSo, Follows, ForEach, GathersSoon, Goes, HasPlayed, IsKnown, Plays, Reaches, Run, StaysNear}
 use Rattle.event_player.specs.Standing.{Stand}
 use Rattle.event_player.specs.Gathering.{Gathered, GatheredPart, Gathers, GathersPart, Puts, Text, put, text}
 use Rattle.event_player.specs.Writing.{Wrote}
-use Rattle.machine_history.proofs.Histories.HistoryLemmas.{history_first, history_none}
+use Rattle.machine_laws.proofs.Histories.HistoryLemmas.{history_first, history_none}
 use Rattle.event_player.proofs.Playing.FullLemmas.{events_full_front, events_full_later, first_event_full}
 use Rattle.event_player.proofs.Playing.GatheringLemmas.{all_put, gathers_put, gathers_unput, part_longer, silent_after, silent_put}
 use Rattle.host_io.proofs.ToldLemmas.{front_longer}

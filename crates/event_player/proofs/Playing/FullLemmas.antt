@@ -8,9 +8,9 @@ use Rattle.machine_model.specs.Runs.Moments.{ByStep, ByTurn, Moment, state_at, m
 use Rattle.machine_model.specs.State.Machine.{Machine}
 use Rattle.machine_model.specs.State.Order.{actor}
 use Rattle.machine_model.specs.Stepping.Step.{step}
-use Rattle.machine_history.specs.History.{history}
-use Rattle.machine_history.specs.HistoryMoments.{event_moments, moments_of, tick_moments}
-use Rattle.machine_history.proofs.Histories.MomentLemmas.{history_last, moments_append}
+use Rattle.machine_laws.specs.History.{history}
+use Rattle.machine_laws.specs.HistoryMoments.{event_moments, moments_of, tick_moments}
+use Rattle.machine_laws.proofs.Histories.MomentLemmas.{history_last, moments_append}
 use Rattle.event_player.specs.Rooms.{ComesFull, IsFull, Room}
 
 -- the start is a state of the run

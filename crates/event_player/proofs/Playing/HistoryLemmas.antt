@@ -11,10 +11,10 @@ use Rattle.xk_base.specs.declared.events.Event.{Event}
 use Rattle.xk_base.specs.declared.events.Event.TheVariants.{Tick, Pick, Irq, Kill}
 use Rattle.machine_model.specs.State.Machine.{Machine}
 use Rattle.machine_model.specs.Stepping.Events.{nothing}
-use Rattle.machine_history.specs.History as kernel
+use Rattle.machine_laws.specs.History as kernel
 use Rattle.xk_kernel.specs.Stepping.{event_done}
-use Rattle.machine_history.proofs.Histories.HistoryLemmas.{history_append, history_first, history_none, irq_plays, kill_plays, pick_plays}
-use Rattle.machine_history.proofs.Histories.LimitLemmas.{history_met, irq_steps, kill_steps, pick_steps}
+use Rattle.machine_laws.proofs.Histories.HistoryLemmas.{history_append, history_first, history_none, irq_plays, kill_plays, pick_plays}
+use Rattle.machine_laws.proofs.Histories.LimitLemmas.{history_met, irq_steps, kill_steps, pick_steps}
 use Rattle.event_player.specs.declared.ending.Ending.{Ending}
 use Rattle.event_player.specs.declared.ending.Ending.TheVariants.{Played, LimitMet}
 use Rattle.event_player.specs.History.{History, with_ending}

@@ -4,7 +4,7 @@ use Rattle.xk_base.specs.declared.events.Event.{Event}
 use Rattle.event_text.specs.EventFile.{Input, input_of}
 use Rattle.event_text.specs.Held.{Reader}
 use Rattle.event_text.specs.Plays.{left_of, play_of}
-use Rattle.machine_history.specs.HistoryMoments.{moments_of}
+use Rattle.machine_laws.specs.HistoryMoments.{moments_of}
 use Rattle.event_player.specs.Rooms.{ComesFull}
 use Rattle.event_player.specs.Playing.{Follows, HasPlayed, IsNearAtEnd, Run}
 use Rattle.event_player.specs.Standing.{Stand}

@@ -4,7 +4,7 @@ use Rattle.xk_base.specs.declared.events.Event.{Event}
 use Rattle.xk_base.specs.declared.events.Event.TheVariants.{Pick, Irq, Kill}
 use Rattle.xk_base.specs.declared.ids.Pid.{Pid}
 use Rattle.xk_base.specs.declared.ids.Tid.{Tid}
-use Rattle.machine_history.specs.History as kernel
+use Rattle.machine_laws.specs.History as kernel
 use Rattle.xk_kernel.specs.Stepping.{event_done}
 use Rattle.event_player.specs.declared.telling.Telling.{Telling}
 use Rattle.event_player.specs.declared.ending.Ending.TheVariants.{Played}

@@ -11,15 +11,15 @@ use Rattle.event_text.specs.declared.event.NextEvent.TheVariants as answer
 use Rattle.event_text.specs.Held.{Reader, new_reader, with_bytes, answer_of, after_next}
 use Rattle.event_text.specs.Plays.{Call, takes, ends, asks, Play, play_of, after_bytes, events_in, finished_reader}
 use Rattle.event_player.specs.declared.ending.Ending.TheVariants.{Played}
-use Rattle.machine_history.specs.History as kernel
-use Rattle.machine_history.specs.History.{history, play}
-use Rattle.machine_history.specs.HistoryMoments.{event_moments, moments_of}
+use Rattle.machine_laws.specs.History as kernel
+use Rattle.machine_laws.specs.History.{history, play}
+use Rattle.machine_laws.specs.HistoryMoments.{event_moments, moments_of}
 use Rattle.event_player.specs.History.{with_ending}
 use Rattle.event_player.specs.Rooms.{ComesFull, IsFull, Room}
 use Rattle.event_player.specs.Playing.{Comes, Follows, HasPlayed, Plays, Reaches, Run, run_from}
 use Rattle.event_player.specs.Standing.{Begins, Stand}
 use Rattle.event_player.specs.Gathering.{Gathered, Gathers, Text}
-use Rattle.machine_history.proofs.Histories.HistoryLemmas.{history_none}
+use Rattle.machine_laws.proofs.Histories.HistoryLemmas.{history_none}
 use Rattle.event_player.proofs.Playing.FullLemmas.{events_full_front, events_full_later, first_event_full, full_start}
 use Rattle.event_player.proofs.Playing.GatheringLemmas.{gathers_none, silent_after, silent_same}
 use Rattle.event_player.proofs.Playing.HistoryLemmas.{gathered_behind, gathered_nothing, history_after, history_one, played_unmet}

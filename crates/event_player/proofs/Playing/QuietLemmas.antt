@@ -8,13 +8,13 @@ use Rattle.machine_model.specs.State.Machine.{Machine, Thread}
 use Rattle.machine_model.specs.State.Order.{actor, next_ready, ready_at}
 use Rattle.machine_model.specs.Stepping.Step.{Recorded, step}
 use Rattle.xk_base.specs.declared.records.Rec.{Rec}
-use Rattle.machine_history.specs.History as kernel
-use Rattle.machine_history.specs.History.{play}
-use Rattle.machine_history.specs.HistoryMoments.{event_moments}
+use Rattle.machine_laws.specs.History as kernel
+use Rattle.machine_laws.specs.History.{play}
+use Rattle.machine_laws.specs.HistoryMoments.{event_moments}
 use Rattle.xk_kernel.specs.Quiet.{GoesQuietly, is_quiet, thread_goes_on, timer_rests}
 use Rattle.xk_kernel.proofs.Quieting.QuietStepLemmas.{quiet_parts, quiet_step_is}
-use Rattle.machine_history.proofs.Histories.HistoryLemmas.{tick_steps}
-use Rattle.machine_history.proofs.Histories.LimitLemmas.{step_steps}
+use Rattle.machine_laws.proofs.Histories.HistoryLemmas.{tick_steps}
+use Rattle.machine_laws.proofs.Histories.LimitLemmas.{step_steps}
 use Rattle.event_player.specs.Rooms.{ComesFull, Room}
 use Rattle.event_player.proofs.Playing.FullLemmas.{tick_full}
 

@@ -7,15 +7,15 @@ use Rattle.machine_model.specs.Runs.Moments.{Moment}
 use Rattle.machine_model.specs.State.Machine.{Machine}
 use Rattle.machine_model.specs.State.Order.{actor}
 use Rattle.sv32_space.specs.Tie.{Held}
-use Rattle.machine_history.specs.History as kernel
-use Rattle.machine_history.specs.History.{play}
-use Rattle.machine_history.specs.HistoryMoments.{event_moments, tick_moments}
+use Rattle.machine_laws.specs.History as kernel
+use Rattle.machine_laws.specs.History.{play}
+use Rattle.machine_laws.specs.HistoryMoments.{event_moments, tick_moments}
 use Rattle.xk_kernel.specs.Knowing.{KnowsBytes, PutsNoneOut}
 use Rattle.xk_kernel.specs.Quiet.{GoesQuietly}
 use Rattle.xk_kernel.specs.Sound.{Keeps}
 use Rattle.xk_kernel.specs.State.{machine_of}
 use Rattle.xk_kernel.specs.declared.kernel.Kernel.{Kernel}
-use Rattle.machine_history.proofs.Histories.HistoryLemmas.{tick_idle, tick_zero}
+use Rattle.machine_laws.proofs.Histories.HistoryLemmas.{tick_idle, tick_zero}
 use Rattle.event_player.specs.declared.telling.Telling.{Telling}
 use Rattle.event_player.specs.declared.ending.Ending.{Ending}
 use Rattle.event_player.specs.declared.ending.Ending.TheVariants.{LimitMet, Played}

@@ -4,8 +4,8 @@ use Rattle.std.specs.Prelude.{if◌then◌else◌}
 use Rattle.std.proofs.lemmas.Grind.{flat_map-append}
 use Rattle.event_text.specs.EventFile.{Input, input_of}
 use Rattle.machine_model.specs.State.Machine.{Machine}
-use Rattle.machine_history.specs.History as kernel
-use Rattle.machine_history.specs.History.{history}
+use Rattle.machine_laws.specs.History as kernel
+use Rattle.machine_laws.specs.History.{history}
 use Rattle.event_player.specs.declared.telling.Telling.{Telling}
 use Rattle.event_player.specs.declared.ending.Ending.{Ending}
 use Rattle.event_player.specs.declared.ending.Ending.TheVariants.{LimitMet}

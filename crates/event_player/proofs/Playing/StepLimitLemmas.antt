@@ -11,9 +11,9 @@ use Rattle.machine_model.specs.State.Machine.{Machine}
 use Rattle.machine_model.specs.State.Order.{actor, turn}
 use Rattle.machine_model.specs.Stepping.Step.{step}
 use Rattle.xk_base.specs.declared.records.Rec.{Rec}
-use Rattle.machine_history.specs.History.{History, reached, stopped, behind, go_on, ticks, play, history}
-use Rattle.machine_history.specs.HistoryMoments.{event_moments, moments_of, tick_moments}
-use Rattle.machine_history.proofs.Histories.LimitLemmas.{history_met, irq_steps, kill_steps, pick_steps, step_steps, turn_steps}
+use Rattle.machine_laws.specs.History.{History, reached, stopped, behind, go_on, ticks, play, history}
+use Rattle.machine_laws.specs.HistoryMoments.{event_moments, moments_of, tick_moments}
+use Rattle.machine_laws.proofs.Histories.LimitLemmas.{history_met, irq_steps, kill_steps, pick_steps, step_steps, turn_steps}
 
 -- a tick by whether there is who does a step, and whether the limit is met
 by_tests : Bool → Bool → ℕ → ℕ → Machine → History

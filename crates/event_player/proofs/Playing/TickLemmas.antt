@@ -6,11 +6,11 @@ use Rattle.machine_model.specs.State.Machine.{Machine}
 use Rattle.machine_model.specs.State.Order.{actor, turn}
 use Rattle.machine_model.specs.Stepping.Events.{nothing}
 use Rattle.machine_model.specs.Stepping.Step.{step}
-use Rattle.machine_history.specs.History as kernel
-use Rattle.machine_history.specs.History.{play}
-use Rattle.machine_history.specs.HistoryMoments.{event_moments}
-use Rattle.machine_history.proofs.Histories.HistoryLemmas.{tick_idle, tick_met, tick_steps, tick_zero}
-use Rattle.machine_history.proofs.Histories.LimitLemmas.{step_steps}
+use Rattle.machine_laws.specs.History as kernel
+use Rattle.machine_laws.specs.History.{play}
+use Rattle.machine_laws.specs.HistoryMoments.{event_moments}
+use Rattle.machine_laws.proofs.Histories.HistoryLemmas.{tick_idle, tick_met, tick_steps, tick_zero}
+use Rattle.machine_laws.proofs.Histories.LimitLemmas.{step_steps}
 use Rattle.event_player.specs.declared.telling.Telling.{Telling}
 use Rattle.event_player.specs.declared.ending.Ending.{Ending}
 use Rattle.event_player.specs.declared.ending.Ending.TheVariants.{BadLine, Played, LimitMet}

@@ -38,7 +38,7 @@ use Rattle.thread_table.specs.declared.thread.ThreadState.{ThreadState as TableS
 use Rattle.thread_table.specs.declared.thread.ThreadState.TheVariants as table
 use Rattle.vm_memory.specs.Memory.{Size, capacity_of, ledger}
 use Rattle.boot_plan.specs.Capacity.{capacity}
-use Rattle.xk_base.specs.Calls.Replies.{plain_words, refused_words}
+use Rattle.syscall_codec.specs.ReplyWords.{plain_words, refused_words}
 use Rattle.xk_base.specs.Tables.Circle.{is_pid, is_thread_id, is_tid, same_thread}
 use Rattle.xk_base.specs.Tables.Counting.{put_at}
 use Rattle.xk_base.specs.declared.errors.XousError.TheVariants.{ServerNotFound}

@@ -1,4 +1,4 @@
-use Rattle.isolation_laws.proofs.Keeping.CallStepLemmas.{call_step_keeps, call_step_moves}
+use Rattle.confidentiality_laws.proofs.Keeping.CallStepLemmas.{call_step_keeps, call_step_moves}
 use Rattle.machine_laws.proofs.Executing.InstructionStepLemmas.{instruction_stores}
 use Rattle.laws.proofs.calls_change_no_byte.Goals as goal
 

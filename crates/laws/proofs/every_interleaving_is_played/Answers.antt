@@ -1,4 +1,4 @@
-use Rattle.machine_history.proofs.Histories.InterleavingLemmas.{interleaving, interleaving_met, unmet_within}
+use Rattle.machine_laws.proofs.Histories.InterleavingLemmas.{interleaving, interleaving_met, unmet_within}
 use Rattle.laws.proofs.every_interleaving_is_played.Goals as goal
 
 -- src/lib.rt

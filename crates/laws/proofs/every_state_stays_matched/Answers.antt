@@ -1,6 +1,6 @@
 use Rattle.machine_laws.proofs.Stepping.EveryStepLemmas.{every_run_keeps}
 use Rattle.machine_model.proofs.State.StartLemmas.{start_matched}
-use Rattle.machine_history.proofs.Histories.MomentLemmas.{history_matched, moments_matched}
+use Rattle.machine_laws.proofs.Histories.MomentLemmas.{history_matched, moments_matched}
 use Rattle.laws.proofs.every_state_stays_matched.Goals as goal
 
 -- src/lib.rt

@@ -1,4 +1,4 @@
-use Rattle.irq_laws.proofs.BusyRunLemmas.{pending_stays_busy, starts_busy}
+use Rattle.interrupt_laws.proofs.BusyRunLemmas.{pending_stays_busy, starts_busy}
 use Rattle.laws.proofs.InterruptLemmas.{idle_at_the_end, idle_since_boot, idle_since_busy}
 use Rattle.laws.proofs.idle_means_nothing_pending.Goals as goal
 

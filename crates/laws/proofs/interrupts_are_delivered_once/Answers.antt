@@ -1,5 +1,5 @@
-use Rattle.irq_laws.proofs.RunLemmas.{delivered_at_most_once, pending_are_claimed}
-use Rattle.irq_laws.proofs.StartingLemmas.{irq_starts_one_or_nothing}
+use Rattle.interrupt_laws.proofs.RunLemmas.{delivered_at_most_once, pending_are_claimed}
+use Rattle.interrupt_laws.proofs.StartingLemmas.{irq_starts_one_or_nothing}
 use Rattle.laws.proofs.HistoryLemmas.{history_delivers}
 use Rattle.laws.proofs.interrupts_are_delivered_once.Goals as goal
 

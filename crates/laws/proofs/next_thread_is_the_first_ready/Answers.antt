@@ -1,5 +1,5 @@
 use Rattle.machine_model.proofs.StepLemmas.{next_ready_passes, none_is_ready}
-use Rattle.machine_history.proofs.Histories.HistoryLemmas.{actor_is_ready, ready_has_actor}
+use Rattle.machine_laws.proofs.Histories.HistoryLemmas.{actor_is_ready, ready_has_actor}
 use Rattle.laws.proofs.OrderLemmas.{first_is_ready}
 use Rattle.laws.proofs.next_thread_is_the_first_ready.Goals as goal
 

@@ -1,5 +1,5 @@
-use Rattle.irq_laws.proofs.EvenRunLemmas.{no_interrupt_is_lost}
-use Rattle.irq_laws.proofs.StartingLemmas.{irq_starts_if_free}
+use Rattle.interrupt_laws.proofs.EvenRunLemmas.{no_interrupt_is_lost}
+use Rattle.interrupt_laws.proofs.StartingLemmas.{irq_starts_if_free}
 use Rattle.laws.proofs.InterruptLemmas.{histories_are_balanced}
 use Rattle.laws.proofs.no_interrupt_is_lost.Goals as goal
 

@@ -1,5 +1,5 @@
-use Rattle.machine_history.specs.HistoryMoments.{moments_of}
-use Rattle.machine_history.proofs.Histories.MomentLemmas.{history_is_run}
+use Rattle.machine_laws.specs.HistoryMoments.{moments_of}
+use Rattle.machine_laws.proofs.Histories.MomentLemmas.{history_is_run}
 use Rattle.laws.proofs.LoadedLemmas.{every_sc_finds_its_word}
 use Rattle.laws.proofs.sc_finds_the_loaded_word.Goals as goal
 

@@ -1,5 +1,5 @@
-use Rattle.timer_laws.proofs.Runs.ClaimantLemmas.{raise_finds_claim}
-use Rattle.timer_laws.proofs.Runs.RunLemmas.{armings_are_moments, timer_holds}
+use Rattle.interrupt_laws.proofs.Runs.ClaimantLemmas.{raise_finds_claim}
+use Rattle.interrupt_laws.proofs.Runs.RunLemmas.{armings_are_moments, timer_holds}
 use Rattle.laws.proofs.HistoryLemmas.{history_timer}
 use Rattle.laws.proofs.timer_raises_at_its_step.Goals as goal
 

@@ -1,6 +1,6 @@
-use Rattle.isolation_laws.proofs.Isolating.RunLemmas.{same_but_bytes, tell_the_same}
-use Rattle.isolation_laws.proofs.Spreading.RunLemmas.{run_moves}
-use Rattle.isolation_laws.proofs.Histories.SideBySideLemmas.{tell_the_same_histories}
+use Rattle.confidentiality_laws.proofs.Isolating.RunLemmas.{same_but_bytes, tell_the_same}
+use Rattle.confidentiality_laws.proofs.Spreading.RunLemmas.{run_moves}
+use Rattle.confidentiality_laws.proofs.Histories.SideBySideLemmas.{tell_the_same_histories}
 use Rattle.laws.proofs.HistoryLemmas.{history_moves}
 use Rattle.laws.proofs.two_histories_tell_the_same.Goals as goal
 

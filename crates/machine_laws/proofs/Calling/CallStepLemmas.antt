@@ -1,8 +1,8 @@
 -- The step of a call: where what comes of the call of its number is matched, so is the state after the step. The calls on memory.
 use Rattle.std.proofs.Common.{◌≡◌, ℕ, true, List, Some, refl, sym, subst}
 use Rattle.xk_base.specs.declared.ids.ThreadId.{ThreadId}
-use Rattle.xk_base.specs.Calls.CallNumbers.{map_memory, increase_heap, decrease_heap, update_memory_flags, unmap_memory}
-use Rattle.xk_base.specs.Calls.CallWords.{call_number}
+use Rattle.syscall_codec.specs.CallNumbers.{map_memory, increase_heap, decrease_heap, update_memory_flags, unmap_memory}
+use Rattle.syscall_codec.specs.CallWords.{call_number}
 use Rattle.machine_model.specs.Stepping.Acts.{call_by}
 use Rattle.machine_model.specs.Calling.Calls.{any_refusals, call, call_at, call_table}
 use Rattle.machine_model.specs.State.Changes.{Call, Outcome}

@@ -7,8 +7,8 @@ use Rattle.xk_base.specs.declared.errors.XousError.TheVariants.{BadAlignment, In
 use Rattle.xk_base.specs.declared.ids.Place.{Place}
 use Rattle.xk_base.specs.declared.limits.TheConstants.{PAGE_SIZE}
 use Rattle.xk_base.specs.declared.windows.Window.TheVariants.{Heap, Message}
-use Rattle.xk_base.specs.Calls.CallWords.{heap_bytes}
-use Rattle.xk_base.specs.Calls.Replies.{plain_words, range_words}
+use Rattle.syscall_codec.specs.CallWords.{heap_bytes}
+use Rattle.syscall_codec.specs.ReplyWords.{plain_words, range_words}
 use Rattle.xk_base.specs.Numbers.Windows.{in_window}
 use Rattle.xk_base.specs.Tables.Circle.{is_pid}
 use Rattle.ledger_model.specs.Conditions.{CanMake}

@@ -8,9 +8,9 @@ use Rattle.xk_base.specs.declared.ids.Vpn.{Vpn}
 use Rattle.xk_base.specs.declared.limits.TheConstants.{PAGE_SIZE, CONSOLE_ADDRESS}
 use Rattle.xk_base.specs.declared.pages.Right.{Right}
 use Rattle.xk_base.specs.declared.windows.Window.TheVariants.{Heap, Map}
-use Rattle.xk_base.specs.Calls.CallWords.{map_phys, map_virt, map_size, map_flags}
-use Rattle.xk_base.specs.Calls.Flags.{flag_execute, has_flag, right_of}
-use Rattle.xk_base.specs.Calls.Replies.{range_words}
+use Rattle.syscall_codec.specs.CallWords.{map_phys, map_virt, map_size, map_flags}
+use Rattle.syscall_codec.specs.Flags.{flag_execute, has_flag, right_of}
+use Rattle.syscall_codec.specs.ReplyWords.{range_words}
 use Rattle.xk_base.specs.Numbers.Windows.{in_window}
 use Rattle.xk_base.specs.Tables.Circle.{is_pid}
 use Rattle.ledger_model.specs.Conditions.{CanMakeConsole, is_console}

@@ -7,9 +7,9 @@ use Rattle.xk_base.specs.declared.errors.XousError.TheVariants.{BadAlignment, Ba
 use Rattle.xk_base.specs.declared.ids.Place.{Place}
 use Rattle.xk_base.specs.declared.limits.TheConstants.{PAGE_SIZE}
 use Rattle.xk_base.specs.declared.pages.Right.{Right}
-use Rattle.xk_base.specs.Calls.CallWords.{range_address, range_size, range_flags}
-use Rattle.xk_base.specs.Calls.Flags.{right_of}
-use Rattle.xk_base.specs.Calls.Replies.{plain_words}
+use Rattle.syscall_codec.specs.CallWords.{range_address, range_size, range_flags}
+use Rattle.syscall_codec.specs.Flags.{right_of}
+use Rattle.syscall_codec.specs.ReplyWords.{plain_words}
 use Rattle.ledger_model.specs.Conditions.{CanReduce, CanRemove}
 use Rattle.ledger_model.specs.Ledger.{Page}
 use Rattle.ledger_model.specs.Places.{in_run}

@@ -5,9 +5,9 @@ use Rattle.std.proofs.lemmas.Bool.{false≢true}
 use Rattle.std.proofs.lemmas.Option.{none-some}
 use Rattle.xk_base.specs.declared.errors.XousError.{XousError}
 use Rattle.xk_base.specs.declared.errors.XousError.TheVariants.{InvalidSyscall, UnhandledSyscall}
-use Rattle.xk_base.specs.Calls.CallNumbers.{is_call_number}
-use Rattle.xk_base.specs.Calls.CallWords.{call_number, is_refused_to_handler}
-use Rattle.xk_base.specs.Calls.Replies.{plain_words, thread_words, scalar1_words}
+use Rattle.syscall_codec.specs.CallNumbers.{is_call_number}
+use Rattle.syscall_codec.specs.CallWords.{call_number, is_refused_to_handler}
+use Rattle.syscall_codec.specs.ReplyWords.{plain_words, thread_words, scalar1_words}
 use Rattle.machine_model.specs.Calling.Calls.{call, call_at, call_table, any_refusals}
 use Rattle.machine_model.specs.State.Changes.{Outcome, Served, answering, first_refusal, refused_or, unless_refused}
 use Rattle.machine_model.specs.State.Machine.{Machine}

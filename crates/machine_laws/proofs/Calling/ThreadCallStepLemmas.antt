@@ -1,8 +1,8 @@
 -- The steps of calls on threads and interrupts.
 use Rattle.std.proofs.Common.{◌≡◌, ℕ, true, List, Some}
 use Rattle.xk_base.specs.declared.ids.ThreadId.{ThreadId}
-use Rattle.xk_base.specs.Calls.CallWords.{call_number}
-use Rattle.xk_base.specs.Calls.CallNumbers.{yield_turn, get_thread_id, get_process_id}
+use Rattle.syscall_codec.specs.CallWords.{call_number}
+use Rattle.syscall_codec.specs.CallNumbers.{yield_turn, get_thread_id, get_process_id}
 use Rattle.machine_model.specs.Stepping.Acts.{call_by}
 use Rattle.machine_model.specs.Calling.Calls.{call}
 use Rattle.machine_model.specs.State.Machine.{Machine}

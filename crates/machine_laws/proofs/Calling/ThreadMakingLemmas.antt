@@ -8,10 +8,10 @@ use Rattle.std.proofs.lemmas.Option.{none-some}
 use Rattle.xk_base.specs.declared.errors.XousError.TheVariants.{BadAlignment, ThreadNotAvailable, InvalidThread}
 use Rattle.xk_base.specs.declared.ids.ThreadId.{ThreadId}
 use Rattle.xk_base.specs.declared.limits.TheConstants.{TID_LIMIT}
-use Rattle.xk_base.specs.Calls.CallWords.{call_number, thread_entry, thread_sp, thread_arguments, join_tid}
+use Rattle.syscall_codec.specs.CallWords.{call_number, thread_entry, thread_sp, thread_arguments, join_tid}
 use Rattle.xk_base.specs.Tables.Circle.{same_thread, is_pid, is_tid, is_thread_id}
 use Rattle.xk_base.specs.Tables.Counting.{put_at}
-use Rattle.xk_base.specs.Calls.Replies.{thread_words}
+use Rattle.syscall_codec.specs.ReplyWords.{thread_words}
 use Rattle.xk_base.proofs.CountingLemmas.{least_below-bound, least_below-passes}
 use Rattle.machine_model.specs.Calling.Calls.{call}
 use Rattle.machine_model.specs.State.Changes.{Served, call_settled, settled, answering, first_refusal}

@@ -1,5 +1,5 @@
 -- The steps of CreateThread and JoinThread.
-use Rattle.xk_base.specs.Calls.CallNumbers.{create_thread, join_thread}
+use Rattle.syscall_codec.specs.CallNumbers.{create_thread, join_thread}
 use Rattle.machine_laws.proofs.Calling.ThreadMakingLemmas.{create_number_keeps, join_number_keeps}
 use Rattle.machine_laws.proofs.Calling.ThreadCallStepLemmas.{StepKeeps, step_of_number}
 

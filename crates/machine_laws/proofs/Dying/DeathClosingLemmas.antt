@@ -12,7 +12,7 @@ use Rattle.xk_base.specs.declared.ids.Pid.{Pid}
 use Rattle.xk_base.specs.declared.ids.Serial.{Serial}
 use Rattle.xk_base.specs.declared.ids.ThreadId.{ThreadId}
 use Rattle.xk_base.specs.declared.messages.Message.{Message}
-use Rattle.xk_base.specs.Calls.Replies.{refused_words}
+use Rattle.syscall_codec.specs.ReplyWords.{refused_words}
 use Rattle.machine_model.specs.Ending.Closing.{is_message_at, is_queued_from, is_sender_at, refused_server, without_queued_from}
 use Rattle.machine_model.specs.Messaging.LoanSets.{end_loans}
 use Rattle.machine_model.specs.Messaging.MessageCounts.{count_at, count_in}

@@ -7,12 +7,12 @@ use Rattle.std.proofs.lemmas.Bool.{and_left, eq-eqb}
 use Rattle.std.proofs.lemmas.Option.{none-some, same_Some}
 use Rattle.xk_base.specs.declared.ids.Pid.{Pid}
 use Rattle.xk_base.specs.declared.ids.ThreadId.{ThreadId}
-use Rattle.xk_base.specs.Calls.CallNumbers.{terminate_process}
-use Rattle.xk_base.specs.Calls.CallWords.{call_number}
+use Rattle.syscall_codec.specs.CallNumbers.{terminate_process}
+use Rattle.syscall_codec.specs.CallWords.{call_number}
 use Rattle.xk_base.specs.Tables.Circle.{same_thread}
 use Rattle.xk_base.specs.Tables.Counting.{put_at}
 use Rattle.xk_base.specs.Calls.Registers.{reg_at}
-use Rattle.xk_base.specs.Calls.Replies.{scalar1_words}
+use Rattle.syscall_codec.specs.ReplyWords.{scalar1_words}
 use Rattle.machine_model.specs.Stepping.Acts.{call_by, executes}
 use Rattle.machine_model.specs.Calling.Calls.{call}
 use Rattle.machine_model.specs.State.Changes.{Change, call_settled, settled}

@@ -15,11 +15,11 @@ use Rattle.xk_base.specs.declared.ids.ThreadId.{ThreadId}
 use Rattle.xk_base.specs.declared.ids.Vpn.{Vpn}
 use Rattle.xk_base.specs.declared.limits.TheConstants.{MESSAGE_LIMIT}
 use Rattle.xk_base.specs.declared.messages.Message.{Message}
-use Rattle.xk_base.specs.Calls.CallNumbers.{forward_message}
-use Rattle.xk_base.specs.Calls.CallWords.{forward_cid}
+use Rattle.syscall_codec.specs.CallNumbers.{forward_message}
+use Rattle.syscall_codec.specs.CallWords.{forward_cid}
 use Rattle.xk_base.specs.Tables.Circle.{same_thread}
 use Rattle.xk_base.specs.Tables.Counting.{least_below, put_at}
-use Rattle.xk_base.specs.Calls.Replies.{message_words, plain_words}
+use Rattle.syscall_codec.specs.ReplyWords.{message_words, plain_words}
 use Rattle.xk_base.proofs.CountingLemmas.{least_below-passes}
 use Rattle.ledger_model.specs.Steps.{pass}
 use Rattle.machine_model.specs.Messaging.ForwardCalls.{are_one_server, forward_call, forward_refusals, forward_served, forward_served_if, forwarded_to, held_place, is_passable_of, next_arrival, next_arrival_refusals, passable, passed_from, passed_message, passed_number, passed_place, passed_to, with_first}

@@ -6,9 +6,9 @@ use Rattle.std.proofs.lemmas.Bool.Decides.{nat_tests}
 use Rattle.std.proofs.lemmas.Option.{none-some, same_Some}
 use Rattle.xk_base.specs.declared.errors.XousError.TheVariants.{BadAlignment, InterruptNotFound, InterruptInUse}
 use Rattle.xk_base.specs.declared.limits.TheConstants.{INTERRUPT_LIMIT, TIMER_INTERRUPT}
-use Rattle.xk_base.specs.Calls.CallWords.{call_number, interrupt_number, interrupt_handler, interrupt_argument}
+use Rattle.syscall_codec.specs.CallWords.{call_number, interrupt_number, interrupt_handler, interrupt_argument}
 use Rattle.xk_base.specs.Tables.Counting.{put_at}
-use Rattle.xk_base.specs.Calls.Replies.{plain_words}
+use Rattle.syscall_codec.specs.ReplyWords.{plain_words}
 use Rattle.machine_model.specs.Calling.Calls.{call}
 use Rattle.machine_model.specs.State.Changes.{Served, first_refusal}
 use Rattle.machine_model.specs.Calling.InterruptCalls.{claim_call, claim_served, claim_refusals, free_call, free_served, free_refusals}

@@ -1,5 +1,5 @@
 -- The steps of ClaimInterrupt and FreeInterrupt.
-use Rattle.xk_base.specs.Calls.CallNumbers.{claim_interrupt, free_interrupt}
+use Rattle.syscall_codec.specs.CallNumbers.{claim_interrupt, free_interrupt}
 use Rattle.machine_laws.proofs.Interrupting.IrqClaimLemmas.{claim_number_keeps, free_number_keeps}
 use Rattle.machine_laws.proofs.Calling.ThreadCallStepLemmas.{StepKeeps, step_of_number}
 

@@ -6,10 +6,10 @@ use Rattle.std.proofs.lemmas.Bool.{eqb-true, false≢true}
 use Rattle.xk_base.specs.declared.errors.XousError.TheVariants.{ServerNotFound}
 use Rattle.xk_base.specs.declared.ids.Serial.{Serial}
 use Rattle.xk_base.specs.declared.messages.Message.{Message}
-use Rattle.xk_base.specs.Calls.CallNumbers.{receive_message, try_receive_message}
-use Rattle.xk_base.specs.Calls.CallWords.{call_number}
+use Rattle.syscall_codec.specs.CallNumbers.{receive_message, try_receive_message}
+use Rattle.syscall_codec.specs.CallWords.{call_number}
 use Rattle.xk_base.specs.Tables.Counting.{put_at}
-use Rattle.xk_base.specs.Calls.Replies.{message_words, plain_words}
+use Rattle.syscall_codec.specs.ReplyWords.{message_words, plain_words}
 use Rattle.machine_model.specs.Calling.Calls.{call}
 use Rattle.machine_model.specs.Calling.ServerCalls.{named_sid, own_server_refusals}
 use Rattle.xk_base.specs.Calls.Kinds.{is_answered}

@@ -10,7 +10,7 @@ use Rattle.xk_base.specs.declared.ids.Serial.{Serial}
 use Rattle.xk_base.specs.declared.messages.Message.{Message}
 use Rattle.xk_base.specs.Tables.Circle.{same_thread}
 use Rattle.xk_base.specs.Tables.Counting.{put_at}
-use Rattle.xk_base.specs.Calls.Replies.{plain_words}
+use Rattle.syscall_codec.specs.ReplyWords.{plain_words}
 use Rattle.ledger_model.specs.Ledger.{Ledger}
 use Rattle.ledger_model.specs.Loans.{same_number}
 use Rattle.machine_model.specs.Messaging.LoanSets.{end_loans}

@@ -6,9 +6,9 @@ use Rattle.std.proofs.lemmas.Bool.{and_parts, eqb-true}
 use Rattle.xk_base.specs.declared.errors.XousError.TheVariants.{BadAddress, DoubleFree}
 use Rattle.xk_base.specs.declared.ids.Number.{Number}
 use Rattle.xk_base.specs.declared.messages.Message.{Message}
-use Rattle.xk_base.specs.Calls.CallNumbers.{return_memory}
-use Rattle.xk_base.specs.Calls.CallWords.{call_number, return_address, return_offset, return_size, return_valid}
-use Rattle.xk_base.specs.Calls.Replies.{returned_words}
+use Rattle.syscall_codec.specs.CallNumbers.{return_memory}
+use Rattle.syscall_codec.specs.CallWords.{call_number, return_address, return_offset, return_size, return_valid}
+use Rattle.syscall_codec.specs.ReplyWords.{returned_words}
 use Rattle.ledger_model.specs.Steps.{end_loan}
 use Rattle.machine_model.specs.Calling.Calls.{call}
 use Rattle.machine_model.specs.Messaging.Messages.{is_lend, is_lend_of, is_of_number}

@@ -7,9 +7,9 @@ use Rattle.xk_base.specs.declared.ids.Number.{Number}
 use Rattle.xk_base.specs.declared.messages.Message.{Message}
 use Rattle.xk_base.specs.declared.messages.MsgKind.{MsgKind}
 use Rattle.xk_base.specs.declared.messages.MsgKind.TheVariants.{LendMut, Lend, Move, Scalar, BlockingScalar}
-use Rattle.xk_base.specs.Calls.CallNumbers.{return_scalar1, return_scalar2}
-use Rattle.xk_base.specs.Calls.CallWords.{return_value1, return_value2}
-use Rattle.xk_base.specs.Calls.Replies.{scalar1_words, scalar2_words}
+use Rattle.syscall_codec.specs.CallNumbers.{return_scalar1, return_scalar2}
+use Rattle.syscall_codec.specs.CallWords.{return_value1, return_value2}
+use Rattle.syscall_codec.specs.ReplyWords.{scalar1_words, scalar2_words}
 use Rattle.machine_model.specs.Messaging.Messages.{is_blocking_of, is_blocking_scalar, is_lend, is_of_number}
 use Rattle.machine_model.specs.Messaging.ReturnCalls.{held_by_caller, named_number, return_scalar1_call, return_scalar2_call, return_scalar_refusals, return_scalar_served}
 use Rattle.machine_model.specs.Runs.Matched.{Matched}

@@ -13,10 +13,10 @@ use Rattle.xk_base.specs.declared.ids.Vpn.{Vpn}
 use Rattle.xk_base.specs.declared.limits.TheConstants.{MESSAGE_LIMIT, PAGE_SIZE}
 use Rattle.xk_base.specs.declared.messages.Message.{Message}
 use Rattle.xk_base.specs.declared.messages.MsgKind.{MsgKind}
-use Rattle.xk_base.specs.Calls.CallWords.{send_length}
+use Rattle.syscall_codec.specs.CallWords.{send_length}
 use Rattle.xk_base.specs.Tables.Circle.{same_thread}
 use Rattle.xk_base.specs.Tables.Counting.{put_at}
-use Rattle.xk_base.specs.Calls.Replies.{message_words}
+use Rattle.syscall_codec.specs.ReplyWords.{message_words}
 use Rattle.ledger_model.specs.Ledger.{Ledger}
 use Rattle.xk_base.specs.Calls.Kinds.{is_answered}
 use Rattle.machine_model.specs.Messaging.Messages.{new_message, new_number, with_queued, with_received}

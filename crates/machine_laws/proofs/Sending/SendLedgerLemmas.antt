@@ -13,7 +13,7 @@ use Rattle.xk_base.specs.declared.messages.MsgKind.TheVariants.{LendMut, Lend, M
 use Rattle.xk_base.specs.declared.pages.LoanKind.{LoanKind}
 use Rattle.xk_base.specs.declared.pages.LoanKind.TheVariants.{Shared, Exclusive}
 use Rattle.xk_base.specs.declared.windows.Window.TheVariants.{Message as MessageWindow}
-use Rattle.xk_base.specs.Calls.CallWords.{send_address, send_cid, send_length}
+use Rattle.syscall_codec.specs.CallWords.{send_address, send_cid, send_length}
 use Rattle.xk_base.specs.Tables.Connections.{connected_to}
 use Rattle.ledger_model.specs.Conditions.{CanGive, CanLend}
 use Rattle.ledger_model.specs.LeastRun.{least_run}

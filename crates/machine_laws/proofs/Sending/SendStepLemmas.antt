@@ -11,8 +11,8 @@ use Rattle.xk_base.specs.declared.ids.Vpn.{Vpn}
 use Rattle.xk_base.specs.declared.messages.MsgKind.{MsgKind}
 use Rattle.xk_base.specs.declared.messages.MsgKind.TheVariants.{Scalar}
 use Rattle.xk_base.specs.declared.windows.Window.TheVariants.{Message as MessageWindow}
-use Rattle.xk_base.specs.Calls.CallNumbers.{send_message, try_send_message}
-use Rattle.xk_base.specs.Calls.CallWords.{call_number, send_address, send_cid, send_kind, send_length}
+use Rattle.syscall_codec.specs.CallNumbers.{send_message, try_send_message}
+use Rattle.syscall_codec.specs.CallWords.{call_number, send_address, send_cid, send_kind, send_length}
 use Rattle.xk_base.specs.Tables.Connections.{connected_to}
 use Rattle.xk_base.specs.Calls.Kinds.{is_waiting_kind, kind_at, is_answered}
 use Rattle.ledger_model.specs.LeastRun.{least_run}

@@ -9,7 +9,7 @@ use Rattle.xk_base.specs.declared.ids.Number.{Number}
 use Rattle.xk_base.specs.declared.ids.Serial.{Serial}
 use Rattle.xk_base.specs.declared.ids.ThreadId.{ThreadId}
 use Rattle.xk_base.specs.Tables.Circle.{same_thread}
-use Rattle.xk_base.specs.Calls.Replies.{plain_words}
+use Rattle.syscall_codec.specs.ReplyWords.{plain_words}
 use Rattle.machine_model.specs.Messaging.SendCalls.{sender_answered}
 use Rattle.machine_model.specs.Runs.Matched.{is_waiting_for, waits_for}
 use Rattle.machine_model.specs.State.Machine.{Process, Thread, ThreadState, Ready, Receiving, Waiting}

@@ -5,10 +5,10 @@ use Rattle.std.specs.Option.{option_map}
 use Rattle.std.proofs.lemmas.Bool.{false≢true}
 use Rattle.xk_base.specs.declared.errors.XousError.TheVariants.{InvalidLimit, ServerNotFound}
 use Rattle.xk_base.specs.declared.ids.Sid.{Sid}
-use Rattle.xk_base.specs.Calls.CallNumbers.{connect, try_connect}
+use Rattle.syscall_codec.specs.CallNumbers.{connect, try_connect}
 use Rattle.xk_base.specs.Tables.Connections.{cid_for, has_room}
 use Rattle.xk_base.specs.Tables.Counting.{least_below}
-use Rattle.xk_base.specs.Calls.Replies.{connection_words}
+use Rattle.syscall_codec.specs.ReplyWords.{connection_words}
 use Rattle.xk_base.proofs.CountingLemmas.{least_below-bound}
 use Rattle.machine_model.specs.Calling.ServerCalls.{connect_call, connect_refusals, connect_served, is_missing, named_server, named_sid, try_connect_call}
 use Rattle.machine_model.specs.State.Changes.{Outcome, Served, unless_refused, unless_retried}

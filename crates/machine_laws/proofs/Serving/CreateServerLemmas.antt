@@ -4,9 +4,9 @@ use Rattle.std.specs.Prelude.{◌==◌, is_some, not}
 use Rattle.xk_base.specs.declared.errors.XousError.TheVariants.{InvalidLimit, ServerExists}
 use Rattle.xk_base.specs.declared.ids.Sid.{Sid}
 use Rattle.xk_base.specs.declared.limits.TheConstants.{SERVER_LIMIT}
-use Rattle.xk_base.specs.Calls.CallNumbers.{create_server_with_address}
+use Rattle.syscall_codec.specs.CallNumbers.{create_server_with_address}
 use Rattle.xk_base.specs.Tables.Connections.{cid_for, has_room}
-use Rattle.xk_base.specs.Calls.Replies.{new_server_words}
+use Rattle.syscall_codec.specs.ReplyWords.{new_server_words}
 use Rattle.machine_model.specs.Calling.ServerCalls.{create_server_call, create_server_refusals, create_server_served, named_sid, new_serial, new_server, with_server}
 use Rattle.machine_model.specs.Runs.Matched.{Matched}
 use Rattle.machine_model.specs.State.Changes.{Served}

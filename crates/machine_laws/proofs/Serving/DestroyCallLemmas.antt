@@ -8,11 +8,11 @@ use Rattle.xk_base.specs.declared.ids.Number.{Number}
 use Rattle.xk_base.specs.declared.ids.Serial.{Serial}
 use Rattle.xk_base.specs.declared.ids.Sid.{Sid}
 use Rattle.xk_base.specs.declared.ids.ThreadId.{ThreadId}
-use Rattle.xk_base.specs.Calls.CallNumbers.{destroy_server}
-use Rattle.xk_base.specs.Calls.CallWords.{call_number}
+use Rattle.syscall_codec.specs.CallNumbers.{destroy_server}
+use Rattle.syscall_codec.specs.CallWords.{call_number}
 use Rattle.xk_base.specs.Tables.Circle.{same_thread}
 use Rattle.xk_base.specs.Tables.Counting.{put_at}
-use Rattle.xk_base.specs.Calls.Replies.{plain_words, refused_words}
+use Rattle.syscall_codec.specs.ReplyWords.{plain_words, refused_words}
 use Rattle.machine_model.specs.Calling.Calls.{call}
 use Rattle.machine_model.specs.Calling.ServerCalls.{destroy_call, destroy_served, named_server, named_sid, own_server_refusals}
 use Rattle.machine_model.specs.Ending.Closing.{closed, destroyed, is_message_at, is_sender_at, refused_server}

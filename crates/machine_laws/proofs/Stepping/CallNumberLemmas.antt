@@ -4,8 +4,8 @@ use Rattle.std.specs.Prelude.{◌==◌, ◌||◌}
 use Rattle.std.specs.List.{AllByRecursion, list_any}
 use Rattle.std.proofs.lemmas.Bool.{eqb-true, false≢true}
 use Rattle.xk_base.specs.declared.errors.XousError.TheVariants.{UnhandledSyscall}
-use Rattle.xk_base.specs.Calls.CallNumbers.{is_call_number}
-use Rattle.xk_base.specs.Calls.CallWords.{call_number}
+use Rattle.syscall_codec.specs.CallNumbers.{is_call_number}
+use Rattle.syscall_codec.specs.CallWords.{call_number}
 use Rattle.machine_model.specs.Calling.Calls.{call}
 use Rattle.machine_model.specs.State.Changes.{Refused}
 use Rattle.machine_model.specs.State.Machine.{Machine}

@@ -14,13 +14,16 @@ use Rattle.xk_base.specs.declared.messages.Message.{Message}
 use Rattle.xk_base.specs.declared.messages.MsgKind.{MsgKind}
 use Rattle.xk_base.specs.declared.messages.MsgKind.TheVariants.{Scalar}
 use Rattle.xk_base.specs.declared.records.What.TheVariants.{End}
-use Rattle.xk_base.specs.Calls.CallNumbers.{call_numbers, is_call_number}
-use Rattle.xk_base.specs.Calls.CallWords.{call_number, forward_cid, heap_bytes, interrupt_argument, interrupt_handler, interrupt_number, join_tid, map_flags, map_phys, map_size, map_virt, range_address, range_flags, range_size, return_address, return_offset, return_size, return_valid, return_value1, return_value2, send_address, thread_arguments, thread_entry, thread_sp}
+use Rattle.syscall_codec.specs.CallNumbers.{call_numbers, is_call_number}
+use Rattle.syscall_codec.specs.CallWords.{call_number, forward_cid, heap_bytes, interrupt_argument, interrupt_handler, interrupt_number}
+use Rattle.syscall_codec.specs.CallWords.{join_tid, map_flags, map_phys, map_size, map_virt, range_address, range_flags, range_size}
+use Rattle.syscall_codec.specs.CallWords.{return_address, return_offset, return_size, return_valid, return_value1, return_value2}
+use Rattle.syscall_codec.specs.CallWords.{send_address, thread_arguments, thread_entry, thread_sp}
 use Rattle.xk_base.specs.Tables.Circle.{is_pid, is_thread_id}
 use Rattle.xk_base.specs.Tables.Counting.{put_at}
 use Rattle.xk_base.specs.Calls.Kinds.{is_answered}
 use Rattle.xk_base.specs.Calls.Registers.{arguments_of, reg_at}
-use Rattle.xk_base.specs.Calls.Replies.{plain_words, scalar1_words, scalar2_words, thread_words}
+use Rattle.syscall_codec.specs.ReplyWords.{plain_words, scalar1_words, scalar2_words, thread_words}
 use Rattle.xk_base.specs.Tables.Sids.{serial_of}
 use Rattle.xk_base.proofs.CircleLemmas.{next_id-valid}
 use Rattle.ledger_model.specs.Steps.{pass}

@@ -4,8 +4,8 @@ use Rattle.std.specs.Prelude.{◌==◌, ◌||◌}
 use Rattle.std.specs.List.{AllByRecursion, list_any}
 use Rattle.std.proofs.lemmas.Bool.{eq-eqb, eqb-true}
 use Rattle.xk_base.specs.declared.errors.XousError.TheVariants.{UnhandledSyscall}
-use Rattle.xk_base.specs.Calls.CallNumbers.{call_numbers, is_call_number, terminate_process}
-use Rattle.xk_base.specs.Calls.CallWords.{call_number}
+use Rattle.syscall_codec.specs.CallNumbers.{call_numbers, is_call_number, terminate_process}
+use Rattle.syscall_codec.specs.CallWords.{call_number}
 use Rattle.machine_model.specs.Runs.Kept.{AllKeepMatched, StepKeepsMatched}
 use Rattle.machine_model.specs.Runs.Matched.{Matched}
 use Rattle.machine_model.specs.Runs.Moments.{IsRun, Moment, state_at}

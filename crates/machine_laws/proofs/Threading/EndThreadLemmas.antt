@@ -14,7 +14,7 @@ use Rattle.xk_base.specs.declared.limits.TheConstants.{TID_LIMIT}
 use Rattle.xk_base.specs.Tables.Circle.{same_thread, is_thread_id}
 use Rattle.xk_base.specs.Tables.Counting.{put_at, least_below}
 use Rattle.xk_base.specs.Calls.Registers.{with_arguments}
-use Rattle.xk_base.specs.Calls.Replies.{scalar1_words}
+use Rattle.syscall_codec.specs.ReplyWords.{scalar1_words}
 use Rattle.xk_base.proofs.CountingLemmas.{least_below-passes}
 use Rattle.machine_model.specs.State.Changes.{Change, settled, only}
 use Rattle.machine_model.specs.Runs.Kept.{Settles}

@@ -9,7 +9,7 @@ use Rattle.xk_base.specs.declared.ids.Number.{Number}
 use Rattle.xk_base.specs.declared.ids.Serial.{Serial}
 use Rattle.xk_base.specs.declared.ids.ThreadId.{ThreadId}
 use Rattle.xk_base.specs.Tables.Counting.{least_below}
-use Rattle.xk_base.specs.Calls.Replies.{refused_words}
+use Rattle.syscall_codec.specs.ReplyWords.{refused_words}
 use Rattle.xk_base.proofs.CountingLemmas.{least_below-none}
 use Rattle.ledger_model.specs.Ledger.{Ledger, Page, PageLoan, Orphan, loan_of}
 use Rattle.ledger_model.specs.Loans.{loans, IsFresh, same_number, of_number, orphan_of_number, loan_of_orphan}

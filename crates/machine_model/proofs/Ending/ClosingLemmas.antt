@@ -6,7 +6,7 @@ use Rattle.std.proofs.lemmas.Option.{none-some}
 use Rattle.xk_base.specs.declared.ids.Pid.{Pid}
 use Rattle.xk_base.specs.declared.ids.Serial.{Serial}
 use Rattle.xk_base.specs.declared.ids.ThreadId.{ThreadId}
-use Rattle.xk_base.specs.Calls.CallNumbers.{call_numbers}
+use Rattle.syscall_codec.specs.CallNumbers.{call_numbers}
 use Rattle.xk_base.proofs.CountingLemmas.{least_below-None}
 use Rattle.machine_model.specs.Calling.Calls.{call_table}
 use Rattle.machine_model.specs.State.Changes.{Retried, call_settled, only}

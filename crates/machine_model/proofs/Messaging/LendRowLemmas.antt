@@ -5,10 +5,10 @@ use Rattle.std.specs.Prelude.{◌&&◌, nat_le, drop}
 use Rattle.std.specs.Option.{option_map, option_and_then}
 use Rattle.xk_base.specs.declared.records.What.{What}
 use Rattle.xk_base.specs.declared.windows.Window.TheVariants.{Message}
-use Rattle.xk_base.specs.Calls.CallWords.{send_cid}
+use Rattle.syscall_codec.specs.CallWords.{send_cid}
 use Rattle.xk_base.specs.Tables.Circle.{listed_ids}
 use Rattle.xk_base.specs.Tables.Counting.{least_below, listed_below, count_below}
-use Rattle.xk_base.specs.Calls.Replies.{eight_words}
+use Rattle.syscall_codec.specs.ReplyWords.{eight_words}
 use Rattle.xk_base.proofs.CountingLemmas.{least_below-Some}
 use Rattle.ledger_model.specs.Ledger.{pages}
 use Rattle.ledger_model.specs.LeastRun.{least_run, is_free_run, window_place}

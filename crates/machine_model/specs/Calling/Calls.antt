@@ -2,12 +2,12 @@
 use Rattle.std.specs.Prelude.{ℕ, Bool, not, ◌&&◌, ◌==◌, if◌then◌else◌, List, [], ◌∷◌}
 use Rattle.xk_base.specs.declared.errors.XousError.{XousError}
 use Rattle.xk_base.specs.declared.errors.XousError.TheVariants.{UnhandledSyscall, InvalidSyscall}
-use Rattle.xk_base.specs.Calls.CallNumbers.{map_memory, yield_turn, claim_interrupt, free_interrupt, increase_heap, decrease_heap}
-use Rattle.xk_base.specs.Calls.CallNumbers.{update_memory_flags, create_server_with_address, receive_message, send_message, connect}
-use Rattle.xk_base.specs.Calls.CallNumbers.{create_thread, unmap_memory, return_memory, terminate_process, try_send_message, try_connect}
-use Rattle.xk_base.specs.Calls.CallNumbers.{return_scalar1, return_scalar2, try_receive_message, join_thread, destroy_server, get_thread_id}
-use Rattle.xk_base.specs.Calls.CallNumbers.{get_process_id, forward_message, is_call_number}
-use Rattle.xk_base.specs.Calls.CallWords.{call_number, is_refused_to_handler}
+use Rattle.syscall_codec.specs.CallNumbers.{map_memory, yield_turn, claim_interrupt, free_interrupt, increase_heap, decrease_heap}
+use Rattle.syscall_codec.specs.CallNumbers.{update_memory_flags, create_server_with_address, receive_message, send_message, connect}
+use Rattle.syscall_codec.specs.CallNumbers.{create_thread, unmap_memory, return_memory, terminate_process, try_send_message, try_connect}
+use Rattle.syscall_codec.specs.CallNumbers.{return_scalar1, return_scalar2, try_receive_message, join_thread, destroy_server, get_thread_id}
+use Rattle.syscall_codec.specs.CallNumbers.{get_process_id, forward_message, is_call_number}
+use Rattle.syscall_codec.specs.CallWords.{call_number, is_refused_to_handler}
 use Rattle.machine_model.specs.State.Changes.{Refused, Call, unless_refused}
 use Rattle.machine_model.specs.Calling.InterruptCalls.{claim_call, free_call}
 use Rattle.machine_model.specs.State.Machine.{Machine}

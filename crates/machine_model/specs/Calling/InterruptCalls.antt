@@ -4,9 +4,9 @@ use Rattle.std.specs.Prelude.{ℕ, ◌%◌, ◌==◌, Bool, false, not, nat_eq, 
 use Rattle.xk_base.specs.declared.errors.XousError.{XousError}
 use Rattle.xk_base.specs.declared.errors.XousError.TheVariants.{BadAlignment, InterruptNotFound, InterruptInUse}
 use Rattle.xk_base.specs.declared.limits.TheConstants.{INTERRUPT_LIMIT, TIMER_INTERRUPT}
-use Rattle.xk_base.specs.Calls.CallWords.{interrupt_number, interrupt_handler, interrupt_argument}
+use Rattle.syscall_codec.specs.CallWords.{interrupt_number, interrupt_handler, interrupt_argument}
 use Rattle.xk_base.specs.Tables.Counting.{put_at}
-use Rattle.xk_base.specs.Calls.Replies.{plain_words}
+use Rattle.syscall_codec.specs.ReplyWords.{plain_words}
 use Rattle.machine_model.specs.State.Changes.{Change, Served, Call, answering, unless_refused}
 use Rattle.machine_model.specs.Stepping.Interrupts.{is_claim_of, disarmed_if}
 use Rattle.machine_model.specs.State.Machine.{Machine}

@@ -10,10 +10,10 @@ use Rattle.xk_base.specs.declared.ids.Place.{Place}
 use Rattle.xk_base.specs.declared.limits.TheConstants.{PAGE_SIZE, CONSOLE_ADDRESS}
 use Rattle.xk_base.specs.declared.pages.Right.{Right}
 use Rattle.xk_base.specs.declared.windows.Window.TheVariants.{Heap, Map}
-use Rattle.xk_base.specs.Calls.CallWords.{map_phys, map_virt, map_size, map_flags, heap_bytes, range_address, range_size, range_flags}
+use Rattle.syscall_codec.specs.CallWords.{map_phys, map_virt, map_size, map_flags, heap_bytes, range_address, range_size, range_flags}
 use Rattle.xk_base.specs.Tables.Counting.{put_at}
-use Rattle.xk_base.specs.Calls.Flags.{flag_read, flag_execute, are_known_flags, has_flag, right_of}
-use Rattle.xk_base.specs.Calls.Replies.{plain_words, range_words}
+use Rattle.syscall_codec.specs.Flags.{flag_read, flag_execute, are_known_flags, has_flag, right_of}
+use Rattle.syscall_codec.specs.ReplyWords.{plain_words, range_words}
 use Rattle.xk_base.specs.Numbers.Windows.{first_page, page_of}
 use Rattle.ledger_model.specs.Ledger.{Ledger, pages}
 use Rattle.ledger_model.specs.LeastRun.{least_run}

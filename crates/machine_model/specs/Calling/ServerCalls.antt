@@ -6,9 +6,9 @@ use Rattle.xk_base.specs.declared.errors.XousError.TheVariants.{ServerExists, Se
 use Rattle.xk_base.specs.declared.ids.Serial.{Serial}
 use Rattle.xk_base.specs.declared.ids.Sid.{Sid}
 use Rattle.xk_base.specs.declared.limits.TheConstants.{SERVER_LIMIT}
-use Rattle.xk_base.specs.Calls.CallWords.{sid_words}
+use Rattle.syscall_codec.specs.CallWords.{sid_words}
 use Rattle.xk_base.specs.Tables.Counting.{put_at}
-use Rattle.xk_base.specs.Calls.Replies.{plain_words, connection_words, new_server_words}
+use Rattle.syscall_codec.specs.ReplyWords.{plain_words, connection_words, new_server_words}
 use Rattle.machine_model.specs.State.Changes.{Change, Served, Call, answering, unless_refused, unless_retried}
 use Rattle.machine_model.specs.Ending.Closing.{destroyed}
 use Rattle.machine_model.specs.State.Connections.{own_connections, connect_caller}

@@ -5,9 +5,9 @@ use Rattle.xk_base.specs.declared.errors.XousError.{XousError}
 use Rattle.xk_base.specs.declared.errors.XousError.TheVariants.{BadAlignment, ThreadNotAvailable, InvalidThread}
 use Rattle.xk_base.specs.declared.ids.Pid.{Pid}
 use Rattle.xk_base.specs.declared.limits.TheConstants.{TID_LIMIT}
-use Rattle.xk_base.specs.Calls.CallWords.{thread_entry, thread_sp, thread_arguments, join_tid}
+use Rattle.syscall_codec.specs.CallWords.{thread_entry, thread_sp, thread_arguments, join_tid}
 use Rattle.xk_base.specs.Tables.Counting.{least_below}
-use Rattle.xk_base.specs.Calls.Replies.{plain_words, thread_words, scalar1_words}
+use Rattle.syscall_codec.specs.ReplyWords.{plain_words, thread_words, scalar1_words}
 use Rattle.machine_model.specs.State.Changes.{Change, Served, Call, only, answering, unless_refused}
 use Rattle.machine_model.specs.Ending.Ends.{death}
 use Rattle.machine_model.specs.State.Machine.{Machine, Joining}

@@ -9,7 +9,7 @@ use Rattle.xk_base.specs.declared.ids.Serial.{Serial}
 use Rattle.xk_base.specs.declared.ids.ThreadId.{ThreadId}
 use Rattle.xk_base.specs.declared.messages.Message.{Message}
 use Rattle.xk_base.specs.Tables.Counting.{least_below}
-use Rattle.xk_base.specs.Calls.Replies.{refused_words}
+use Rattle.syscall_codec.specs.ReplyWords.{refused_words}
 use Rattle.machine_model.specs.State.Changes.{Change, answering}
 use Rattle.machine_model.specs.Messaging.LoanSets.{end_loans, orphan_loans}
 use Rattle.machine_model.specs.State.Machine.{Machine, Server}

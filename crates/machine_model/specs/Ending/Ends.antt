@@ -5,7 +5,7 @@ use Rattle.xk_base.specs.declared.ids.ThreadId.{ThreadId}
 use Rattle.xk_base.specs.declared.ids.Tid.{Tid}
 use Rattle.xk_base.specs.declared.limits.TheConstants.{TID_LIMIT, TIMER_INTERRUPT}
 use Rattle.xk_base.specs.Tables.Counting.{least_below, put_at}
-use Rattle.xk_base.specs.Calls.Replies.{scalar1_words}
+use Rattle.syscall_codec.specs.ReplyWords.{scalar1_words}
 use Rattle.ledger_model.specs.Steps.{forget}
 use Rattle.machine_model.specs.State.Changes.{Change, only}
 use Rattle.machine_model.specs.Ending.Closing.{servers_closed, senders_queued_gone, senders_held_gone}

@@ -10,8 +10,8 @@ use Rattle.xk_base.specs.declared.ids.Serial.{Serial}
 use Rattle.xk_base.specs.declared.ids.Vpn.{Vpn}
 use Rattle.xk_base.specs.declared.limits.TheConstants.{PAGE_SIZE}
 use Rattle.xk_base.specs.declared.messages.Message.{Message}
-use Rattle.xk_base.specs.Calls.CallWords.{forward_token, forward_cid}
-use Rattle.xk_base.specs.Calls.Replies.{plain_words}
+use Rattle.syscall_codec.specs.CallWords.{forward_token, forward_cid}
+use Rattle.syscall_codec.specs.ReplyWords.{plain_words}
 use Rattle.ledger_model.specs.Steps.{pass}
 use Rattle.machine_model.specs.State.Changes.{Change, Outcome, Served, Call, only, unless_refused}
 use Rattle.machine_model.specs.State.Connections.{own_connections}

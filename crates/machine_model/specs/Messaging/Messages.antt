@@ -12,7 +12,7 @@ use Rattle.xk_base.specs.declared.messages.MsgKind.{MsgKind}
 use Rattle.xk_base.specs.declared.messages.MsgKind.TheVariants.{LendMut, Lend, Move, Scalar, BlockingScalar}
 use Rattle.xk_base.specs.declared.pages.LoanKind.{LoanKind}
 use Rattle.xk_base.specs.declared.pages.LoanKind.TheVariants.{Shared, Exclusive}
-use Rattle.xk_base.specs.Calls.CallWords.{send_id, send_words, send_length, send_offset, send_valid}
+use Rattle.syscall_codec.specs.CallWords.{send_id, send_words, send_length, send_offset, send_valid}
 use Rattle.xk_base.specs.Tables.Circle.{same_thread, is_thread_of}
 use Rattle.xk_base.specs.Calls.Kinds.{is_answered}
 use Rattle.ledger_model.specs.Loans.{same_number}

@@ -4,7 +4,7 @@ use Rattle.std.specs.Option.{option_and_then}
 use Rattle.xk_base.specs.declared.ids.Serial.{Serial}
 use Rattle.xk_base.specs.declared.ids.Sid.{Sid}
 use Rattle.xk_base.specs.declared.messages.Message.{Message}
-use Rattle.xk_base.specs.Calls.Replies.{plain_words, message_words}
+use Rattle.syscall_codec.specs.ReplyWords.{plain_words, message_words}
 use Rattle.machine_model.specs.State.Changes.{Change, Served, Call, only, answering, unless_refused}
 use Rattle.machine_model.specs.State.Machine.{Machine, Receiving}
 use Rattle.machine_model.specs.Messaging.Messages.{oldest, without_oldest, with_received}

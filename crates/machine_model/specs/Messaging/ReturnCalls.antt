@@ -10,10 +10,10 @@ use Rattle.xk_base.specs.declared.ids.Serial.{Serial}
 use Rattle.xk_base.specs.declared.ids.ThreadId.{ThreadId}
 use Rattle.xk_base.specs.declared.limits.TheConstants.{PAGE_SIZE}
 use Rattle.xk_base.specs.declared.messages.Message.{Message}
-use Rattle.xk_base.specs.Calls.CallWords.{return_token, return_address, return_size, return_offset, return_valid, return_value1}
-use Rattle.xk_base.specs.Calls.CallWords.{return_value2}
+use Rattle.syscall_codec.specs.CallWords.{return_token, return_address, return_size, return_offset, return_valid, return_value1}
+use Rattle.syscall_codec.specs.CallWords.{return_value2}
 use Rattle.xk_base.specs.Tables.Counting.{least_below}
-use Rattle.xk_base.specs.Calls.Replies.{plain_words, returned_words, scalar1_words, scalar2_words}
+use Rattle.syscall_codec.specs.ReplyWords.{plain_words, returned_words, scalar1_words, scalar2_words}
 use Rattle.ledger_model.specs.Steps.{end_loan}
 use Rattle.machine_model.specs.State.Changes.{Change, Served, Call, answering, unless_refused}
 use Rattle.machine_model.specs.State.Machine.{Machine, Server}

@@ -16,9 +16,9 @@ use Rattle.xk_base.specs.declared.messages.MsgKind.{MsgKind}
 use Rattle.xk_base.specs.declared.messages.MsgKind.TheVariants.{LendMut, Lend, Move, Scalar, BlockingScalar}
 use Rattle.xk_base.specs.declared.pages.LoanKind.TheVariants.{Shared, Exclusive}
 use Rattle.xk_base.specs.declared.windows.Window.TheVariants.{Message as MessageWindow}
-use Rattle.xk_base.specs.Calls.CallWords.{send_cid, send_kind, send_address, send_length}
+use Rattle.syscall_codec.specs.CallWords.{send_cid, send_kind, send_address, send_length}
 use Rattle.xk_base.specs.Calls.Kinds.{kind_at, is_answered}
-use Rattle.xk_base.specs.Calls.Replies.{plain_words, message_words}
+use Rattle.syscall_codec.specs.ReplyWords.{plain_words, message_words}
 use Rattle.ledger_model.specs.Ledger.{Ledger}
 use Rattle.ledger_model.specs.LeastRun.{least_run}
 use Rattle.ledger_model.specs.RunTests.{any_free, any_not_sent}

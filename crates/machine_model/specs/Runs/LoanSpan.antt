@@ -11,8 +11,8 @@ use Rattle.xk_base.specs.declared.ids.Place.{Place}
 use Rattle.xk_base.specs.declared.ids.ThreadId.{ThreadId}
 use Rattle.xk_base.specs.declared.pages.LoanKind.TheVariants.{Shared, Exclusive}
 use Rattle.xk_base.specs.declared.pages.Right.{Right}
-use Rattle.xk_base.specs.Calls.CallNumbers.{send_message, try_send_message, return_memory, forward_message}
-use Rattle.xk_base.specs.Calls.CallWords.{call_number, return_token, forward_token}
+use Rattle.syscall_codec.specs.CallNumbers.{send_message, try_send_message, return_memory, forward_message}
+use Rattle.syscall_codec.specs.CallWords.{call_number, return_token, forward_token}
 use Rattle.ledger_model.specs.Ledger.{Ledger, Contents, Page, PageName, Homed, Orphaned, contents_of}
 use Rattle.ledger_model.specs.Loans.{LoanRun, Stands, IsFresh, loans}
 use Rattle.ledger_model.specs.Places.{place_after}

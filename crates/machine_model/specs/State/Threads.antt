@@ -6,7 +6,7 @@ use Rattle.xk_base.specs.declared.ids.ThreadId.{ThreadId}
 use Rattle.xk_base.specs.Tables.Circle.{same_thread}
 use Rattle.xk_base.specs.Tables.Counting.{put_at}
 use Rattle.xk_base.specs.Calls.Registers.{with_reg, with_arguments}
-use Rattle.xk_base.specs.Calls.Replies.{eight_words}
+use Rattle.syscall_codec.specs.ReplyWords.{eight_words}
 use Rattle.machine_model.specs.Hart.Instructions.{following}
 use Rattle.machine_model.specs.State.Machine.{Machine, Thread, ThreadState, Ready, Idle, Claim}
 

@@ -2,7 +2,7 @@
 use Rattle.std.specs.Prelude.{List, [], ◌∷◌}
 use Rattle.xk_base.specs.declared.records.What.{What}
 use Rattle.xk_base.specs.declared.records.What.TheVariants.{Reply, Gone}
-use Rattle.xk_base.specs.Calls.Replies.{eight_words}
+use Rattle.syscall_codec.specs.ReplyWords.{eight_words}
 use Rattle.machine_model.specs.Worked.Rows.{Deed, Calls, Kills, pid_of, id_of}
 
 -- 2.2 waits. 3.2 makes a heap of one page, and a second thread.

@@ -2,7 +2,7 @@
 use Rattle.std.specs.Prelude.{List, [], ◌∷◌}
 use Rattle.xk_base.specs.declared.records.What.{What}
 use Rattle.xk_base.specs.declared.records.What.TheVariants.{Reply}
-use Rattle.xk_base.specs.Calls.Replies.{eight_words}
+use Rattle.syscall_codec.specs.ReplyWords.{eight_words}
 use Rattle.machine_model.specs.Worked.Rows.{Deed, Calls, id_of}
 
 -- The ends of the Map window, by 2.2: its last page is mapped; two pages from there on leave it; a size of 0; flags without R, and

@@ -5,7 +5,7 @@ use Rattle.xk_base.specs.declared.ids.ThreadId.{ThreadId}
 use Rattle.xk_base.specs.declared.records.Rec.{Rec}
 use Rattle.xk_base.specs.declared.records.What.{What}
 use Rattle.xk_base.specs.Tables.Circle.{is_pid}
-use Rattle.xk_base.specs.Calls.Replies.{eight_words}
+use Rattle.syscall_codec.specs.ReplyWords.{eight_words}
 use Rattle.ledger_model.specs.Ledger.{empty_ledger}
 use Rattle.machine_model.specs.Calling.Calls.{call}
 use Rattle.machine_model.specs.State.Changes.{Told, settled, call_settled}

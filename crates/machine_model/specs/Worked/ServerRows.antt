@@ -3,7 +3,7 @@
 use Rattle.std.specs.Prelude.{List, [], ◌∷◌, ◌++◌, replicate}
 use Rattle.xk_base.specs.declared.records.What.{What}
 use Rattle.xk_base.specs.declared.records.What.TheVariants.{Reply, Retry, Irq, Gone}
-use Rattle.xk_base.specs.Calls.Replies.{eight_words}
+use Rattle.syscall_codec.specs.ReplyWords.{eight_words}
 use Rattle.machine_model.specs.Worked.Rows.{Deed, Calls, Raises, EndsHandler, Kills, pid_of, id_of}
 
 -- 2.2 claims interrupt 4, with argument 9. It comes, and twice more while its handler runs; then the handler ends twice.

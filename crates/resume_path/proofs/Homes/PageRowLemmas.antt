@@ -15,8 +15,8 @@ use Rattle.ledger_model.specs.Reach.{HomePlace, home_may, is_free, is_free_role,
 use Rattle.ledger_model.specs.Conditions.{is_within}
 use Rattle.ledger_model.specs.RunTests.{any_free, any_lacks, any_on_loan, any_used, asks_more, console_mapped, fits_window, is_on_loan}
 use Rattle.ledger_model.specs.Steps.{make, make_console, new_page, reduce, with_right, write, written, written_page, zero_page}
-use Rattle.state_rows.specs.Machines.{ledger_page, contents_at}
-use Rattle.state_rows.specs.declared.state.PageRow.{PageRow}
+use Rattle.snapshot_rows.specs.Machines.{ledger_page, contents_at}
+use Rattle.snapshot_rows.specs.declared.state.PageRow.{PageRow}
 use Rattle.sv32_space.specs.PageSteps.{place_page, without_loan}
 use Rattle.vm_memory.specs.Pages.Making.{console_answer, if_room, make_answer}
 use Rattle.vm_memory.specs.Pages.Removing.{reduce_answer}

@@ -13,9 +13,9 @@ use Rattle.ledger_model.specs.Loans.{bare, bare_contents, bare_page, loans}
 use Rattle.ledger_model.specs.Places.{is_place_in, is_user_place}
 use Rattle.ledger_model.specs.Reach.{is_free}
 use Rattle.ledger_model.specs.RunTests.{console_mapped}
-use Rattle.state_rows.specs.Machines.{ledger_page, place_at}
-use Rattle.state_rows.specs.declared.state.PageRow.{PageRow}
-use Rattle.state_rows.specs.declared.state.State.{State}
+use Rattle.snapshot_rows.specs.Machines.{ledger_page, place_at}
+use Rattle.snapshot_rows.specs.declared.state.PageRow.{PageRow}
+use Rattle.snapshot_rows.specs.declared.state.State.{State}
 use Rattle.sv32_space.specs.PageSteps.{place_page, without_loan}
 use Rattle.sv32_space.specs.Tie.{Held}
 use Rattle.vm_memory.specs.Memory.{Size, capacity_of, frames_for_pages, ledger, processes, store_of}

@@ -10,7 +10,7 @@ use Rattle.ledger_model.specs.Loans.{bare, loans}
 use Rattle.ledger_model.specs.Places.{is_user_place}
 use Rattle.ledger_model.specs.Reach.{reach}
 use Rattle.ledger_model.specs.Steps.{make, write}
-use Rattle.state_rows.specs.Machines.{contents_at}
+use Rattle.snapshot_rows.specs.Machines.{contents_at}
 use Rattle.sv32_space.specs.Tie.{Held}
 use Rattle.vm_memory.proofs.Changing.AnsweringLemmas.{can_answered}
 use Rattle.vm_memory.specs.Memory.{IsUsable, frames_for_pages, ledger, processes}

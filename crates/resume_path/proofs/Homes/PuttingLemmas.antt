@@ -8,8 +8,8 @@ use Rattle.ledger_model.specs.Places.{in_run, is_place_in}
 use Rattle.ledger_model.specs.Reach.{is_free}
 use Rattle.ledger_model.specs.RunTests.{console_mapped}
 use Rattle.ledger_model.specs.Steps.{make, make_console, reduce, write}
-use Rattle.state_rows.specs.Machines.{ledger_page, place_at, contents_at}
-use Rattle.state_rows.specs.declared.state.PageRow.{PageRow}
+use Rattle.snapshot_rows.specs.Machines.{ledger_page, place_at, contents_at}
+use Rattle.snapshot_rows.specs.declared.state.PageRow.{PageRow}
 use Rattle.sv32_space.specs.PageSteps.{place_page, without_loan}
 use Rattle.vm_memory.specs.Bytes.{none_out}
 use Rattle.vm_memory.specs.Memory.{frames_for_pages}

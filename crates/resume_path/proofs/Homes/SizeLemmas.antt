@@ -14,7 +14,7 @@ use Rattle.boot_plan.specs.declared.plans.BootPlan.{BootPlan}
 use Rattle.boot_plan.specs.declared.plans.ProcPlan.{ProcPlan}
 use Rattle.ledger_model.specs.Ledger.{empty_ledger}
 use Rattle.ledger_model.specs.Loans.{bare}
-use Rattle.state_rows.specs.declared.state.State.{State}
+use Rattle.snapshot_rows.specs.declared.state.State.{State}
 use Rattle.vm_memory.specs.Bytes.{MeansBytes, is_known, none_out}
 use Rattle.vm_memory.specs.FirstLedger.{first_ledger, first_page, planned_page, process_of}
 use Rattle.vm_memory.specs.Memory.{IsUsable, ledger}

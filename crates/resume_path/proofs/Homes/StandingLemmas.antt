@@ -20,14 +20,14 @@ use Rattle.ledger_model.specs.Places.{in_run, is_place_in, is_user_place, same_p
 use Rattle.ledger_model.specs.Reach.{is_free}
 use Rattle.ledger_model.specs.RunTests.{console_mapped}
 use Rattle.ledger_model.specs.Steps.{make, write}
-use Rattle.state_rows.proofs.KeyLemmas.{Less, less_apart, less_behind, less_through, pair_is, pair_own}
+use Rattle.snapshot_rows.proofs.KeyLemmas.{Less, less_apart, less_behind, less_through, pair_is, pair_own}
 use Rattle.suspend_image.proofs.OrderLemmas.{pages_ascend}
 use Rattle.suspend_image.specs.Forms.{IsPageRow, StandsBefore}
-use Rattle.state_rows.specs.Machines.{ledger_page, place_at, contents_at}
+use Rattle.snapshot_rows.specs.Machines.{ledger_page, place_at, contents_at}
 use Rattle.suspend_image.specs.Spelling.{orphan_bytes, page_bytes, rows_bytes}
-use Rattle.state_rows.specs.Order.{AscendInTwo, least_first, least_second, page_key}
-use Rattle.state_rows.specs.declared.state.PageRow.{PageRow}
-use Rattle.state_rows.specs.declared.state.State.{State}
+use Rattle.snapshot_rows.specs.Order.{AscendInTwo, least_first, least_second, page_key}
+use Rattle.snapshot_rows.specs.declared.state.PageRow.{PageRow}
+use Rattle.snapshot_rows.specs.declared.state.State.{State}
 use Rattle.sv32_space.specs.PageSteps.{place_page, without_loan}
 use Rattle.vm_memory.proofs.Changing.OnePlaceLemmas.{in_one}
 use Rattle.xk_base.specs.declared.ids.Place.{Place}

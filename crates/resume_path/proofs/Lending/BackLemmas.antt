@@ -8,10 +8,10 @@ use Rattle.std.proofs.lemmas.List.{get_or-replicate, get_or-set_other, get_or-se
 use Rattle.std.proofs.lemmas.Option.{slice_get_within}
 use Rattle.msg_queue.specs.Seats.{Seat, changed_at, empty_seat, seat_of, used_of, with_held, with_held_at, with_queued}
 use Rattle.msg_queue.specs.declared.held.Held.{Held}
-use Rattle.state_rows.specs.declared.state.MessageRow.{MessageRow}
-use Rattle.state_rows.specs.declared.state.PageRow.{PageRow}
-use Rattle.state_rows.specs.declared.state.ServerRow.{ServerRow}
-use Rattle.state_rows.specs.declared.state.State.{State}
+use Rattle.snapshot_rows.specs.declared.state.MessageRow.{MessageRow}
+use Rattle.snapshot_rows.specs.declared.state.PageRow.{PageRow}
+use Rattle.snapshot_rows.specs.declared.state.ServerRow.{ServerRow}
+use Rattle.snapshot_rows.specs.declared.state.State.{State}
 use Rattle.xk_base.specs.declared.limits.TheConstants.{SERVER_LIMIT}
 use Rattle.resume_path.proofs.Rows.KeptLemmas.{few_kept, filter_fewer, insert_mapped, kept_at, kept_last, many_before, none_behind, same_kept}
 use Rattle.resume_path.proofs.Rows.OnceLemmas.{get_first, get_left, get_right, get_second}

@@ -10,12 +10,12 @@ use Rattle.ledger_model.proofs.Loans.OfNumberLemmas.{stands-home}
 use Rattle.ledger_model.specs.Ledger.{Ledger, PageLoan, loan_at, loan_of}
 use Rattle.ledger_model.specs.Loans.{LoanRun, Stands, lent_from, loan_of_run, loans, of_number, same_number}
 use Rattle.ledger_model.specs.Places.{in_run, moved}
-use Rattle.state_rows.proofs.KeyLemmas.{Less, key_above, less_apart, less_behind, less_through, pair_is, pair_own, some, some_same}
+use Rattle.snapshot_rows.proofs.KeyLemmas.{Less, key_above, less_apart, less_behind, less_through, pair_is, pair_own, some, some_same}
 use Rattle.suspend_image.proofs.OrderLemmas.{pages_ascend}
-use Rattle.state_rows.specs.Order.{AreInOrder, least_first, least_second, page_key}
-use Rattle.state_rows.specs.Machines.{ledger_page, loan_kind_of, place_at}
-use Rattle.state_rows.specs.declared.state.PageRow.{PageRow}
-use Rattle.state_rows.specs.declared.state.State.{State}
+use Rattle.snapshot_rows.specs.Order.{AreInOrder, least_first, least_second, page_key}
+use Rattle.snapshot_rows.specs.Machines.{ledger_page, loan_kind_of, place_at}
+use Rattle.snapshot_rows.specs.declared.state.PageRow.{PageRow}
+use Rattle.snapshot_rows.specs.declared.state.State.{State}
 use Rattle.xk_base.specs.declared.ids.Place.{Place}
 use Rattle.resume_path.proofs.Homes.StandingLemmas.{row_there}
 use Rattle.resume_path.specs.Messages.{first_lent, is_lent_by}

@@ -5,10 +5,10 @@ use Rattle.std.specs.List.Sorted.{IsPartitionedBy, IsPartitionPoint}
 use Rattle.std.specs.Option.{option_map}
 use Rattle.std.proofs.lemmas.Bool.{cases_Bool, cases_lt, lt-ltb, ltb-true}
 use Rattle.std.proofs.lemmas.List.{length-drop, take_all}
-use Rattle.state_rows.proofs.KeyLemmas.{Less, less_apart, less_behind, less_through, pair_is}
-use Rattle.state_rows.specs.Machines.{place_at}
-use Rattle.state_rows.specs.Order.{AscendInTwo, least_first, least_second, page_key}
-use Rattle.state_rows.specs.declared.state.PageRow.{PageRow}
+use Rattle.snapshot_rows.proofs.KeyLemmas.{Less, less_apart, less_behind, less_through, pair_is}
+use Rattle.snapshot_rows.specs.Machines.{place_at}
+use Rattle.snapshot_rows.specs.Order.{AscendInTwo, least_first, least_second, page_key}
+use Rattle.snapshot_rows.specs.declared.state.PageRow.{PageRow}
 use Rattle.xk_base.specs.declared.ids.Place.{Place}
 use Rattle.resume_path.proofs.Lending.FirstLentLemmas.{test_of}
 use Rattle.resume_path.proofs.Rows.RowLemmas.{less_at}

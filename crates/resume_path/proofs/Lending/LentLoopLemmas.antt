@@ -15,15 +15,15 @@ use Rattle.ledger_model.specs.Steps.{lend}
 use Rattle.loan_flags.specs.Sending.{mem_kind}
 use Rattle.msg_queue.specs.Seats.{Seat, changed_at, seat_of, used_of, with_held_at, with_queued}
 use Rattle.msg_queue.specs.declared.held.Held.{Held as HeldMessage}
-use Rattle.state_rows.proofs.KeyLemmas.{found_any}
+use Rattle.snapshot_rows.proofs.KeyLemmas.{found_any}
 use Rattle.suspend_image.specs.Forms.{IsPageRow}
-use Rattle.state_rows.specs.Machines.{ledger_page, message_of, place_at}
-use Rattle.state_rows.specs.Order.{page_key}
+use Rattle.snapshot_rows.specs.Machines.{ledger_page, message_of, place_at}
+use Rattle.snapshot_rows.specs.Order.{page_key}
 use Rattle.suspend_image.specs.Spelling.{orphan_bytes, page_bytes, rows_bytes}
-use Rattle.state_rows.specs.declared.state.MessageRow.{MessageRow}
-use Rattle.state_rows.specs.declared.state.PageRow.{PageRow}
-use Rattle.state_rows.specs.declared.state.ServerRow.{ServerRow}
-use Rattle.state_rows.specs.declared.state.State.{State}
+use Rattle.snapshot_rows.specs.declared.state.MessageRow.{MessageRow}
+use Rattle.snapshot_rows.specs.declared.state.PageRow.{PageRow}
+use Rattle.snapshot_rows.specs.declared.state.ServerRow.{ServerRow}
+use Rattle.snapshot_rows.specs.declared.state.State.{State}
 use Rattle.vm_memory.specs.Loaning.Loans.{KeepsSeats}
 use Rattle.vm_memory.specs.Loaning.Sending.{IsFreeArrival, send_answer}
 use Rattle.vm_memory.specs.Memory.{ledger, processes}

@@ -10,13 +10,13 @@ use Rattle.ledger_model.specs.Loans.{LoanRun, Loans, Stands, loans}
 use Rattle.machine_model.specs.Messaging.Messages.{loan_kind}
 use Rattle.machine_model.specs.Runs.Matched.{IsLendMatched, IsMessageLent, IsOnLoan, lend_run}
 use Rattle.xk_parts.specs.Sound.{IsLenderOf, IsLoanOf}
-use Rattle.state_rows.proofs.KeyLemmas.{either, number_is, number_own}
+use Rattle.snapshot_rows.proofs.KeyLemmas.{either, number_is, number_own}
 use Rattle.suspend_image.proofs.OrderLemmas.{servers_ascend}
-use Rattle.state_rows.specs.Machines.{message_of, server_of, thread_at_id}
-use Rattle.state_rows.specs.Order.{after, server_key}
-use Rattle.state_rows.specs.declared.state.MessageRow.{MessageRow}
-use Rattle.state_rows.specs.declared.state.ServerRow.{ServerRow}
-use Rattle.state_rows.specs.declared.state.State.{State}
+use Rattle.snapshot_rows.specs.Machines.{message_of, server_of, thread_at_id}
+use Rattle.snapshot_rows.specs.Order.{after, server_key}
+use Rattle.snapshot_rows.specs.declared.state.MessageRow.{MessageRow}
+use Rattle.snapshot_rows.specs.declared.state.ServerRow.{ServerRow}
+use Rattle.snapshot_rows.specs.declared.state.State.{State}
 use Rattle.xk_base.specs.Calls.Kinds.{kind_at}
 use Rattle.xk_base.specs.declared.ids.Pid.{Pid}
 use Rattle.xk_base.specs.declared.ids.Place.{Place}

@@ -10,10 +10,10 @@ use Rattle.ledger_model.specs.Ledger.{Ledger, Orphan, empty_ledger}
 use Rattle.ledger_model.specs.Loans.{LoanRun}
 use Rattle.msg_queue.specs.Seats.{Seat, changed_at, empty_seat, seat_of, used_of, with_held}
 use Rattle.msg_queue.specs.declared.held.Held.{Held as HeldMessage}
-use Rattle.state_rows.specs.Machines.{message_of}
-use Rattle.state_rows.specs.declared.state.MessageRow.{MessageRow}
-use Rattle.state_rows.specs.declared.state.ServerRow.{ServerRow}
-use Rattle.state_rows.specs.declared.state.State.{State}
+use Rattle.snapshot_rows.specs.Machines.{message_of}
+use Rattle.snapshot_rows.specs.declared.state.MessageRow.{MessageRow}
+use Rattle.snapshot_rows.specs.declared.state.ServerRow.{ServerRow}
+use Rattle.snapshot_rows.specs.declared.state.State.{State}
 use Rattle.vm_memory.specs.Memory.{frames_for_pages, ledger, store_of}
 use Rattle.vm_memory.specs.declared.memory.Memory.{Memory}
 use Rattle.xk_base.specs.Outside.{Rose}

@@ -7,10 +7,10 @@ use Rattle.std.specs.Option.{option_map}
 use Rattle.std.specs.Result.{is_ok}
 use Rattle.std.specs.declared.cmp.Ordering.{Ordering}
 use Rattle.std.proofs.lemmas.Bool.{false≢true}
-use Rattle.ledger_matching.proofs.Keys.SearchLemmas.{Ranked, order_of, ranked, search_told}
-use Rattle.state_rows.proofs.KeyLemmas.{Less, found_any, less_apart, less_behind, less_through, pair_is, pair_own}
-use Rattle.state_rows.specs.Order.{AscendInTwo, least_first, least_second, orphan_key}
-use Rattle.state_rows.specs.declared.state.OrphanRow.{OrphanRow}
+use Rattle.snapshot_rows.proofs.Keys.SearchLemmas.{Ranked, order_of, ranked, search_told}
+use Rattle.snapshot_rows.proofs.KeyLemmas.{Less, found_any, less_apart, less_behind, less_through, pair_is, pair_own}
+use Rattle.snapshot_rows.specs.Order.{AscendInTwo, least_first, least_second, orphan_key}
+use Rattle.snapshot_rows.specs.declared.state.OrphanRow.{OrphanRow}
 use Rattle.xk_base.specs.declared.ids.Place.{Place}
 use Rattle.resume_path.proofs.Orphaned.OrphanStepLemmas.{is_orphan_at}
 use Rattle.resume_path.proofs.Rows.RowLemmas.{found_own}

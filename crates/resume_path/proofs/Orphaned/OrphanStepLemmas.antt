@@ -19,9 +19,9 @@ use Rattle.ledger_model.specs.Places.{in_run, place_after}
 use Rattle.ledger_model.specs.Reach.{reach}
 use Rattle.ledger_model.specs.Steps.{lend, make, orphan_loan, write}
 use Rattle.suspend_image.proofs.StandingLemmas.{spelled_stands, OrphanStandsIn}
-use Rattle.state_rows.specs.Machines.{ledger_orphan, contents_at}
-use Rattle.state_rows.specs.declared.state.OrphanRow.{OrphanRow}
-use Rattle.state_rows.specs.declared.state.State.{State}
+use Rattle.snapshot_rows.specs.Machines.{ledger_orphan, contents_at}
+use Rattle.snapshot_rows.specs.declared.state.OrphanRow.{OrphanRow}
+use Rattle.snapshot_rows.specs.declared.state.State.{State}
 use Rattle.vm_memory.proofs.Changing.SoundMemoryLemmas.{bare-ledger}
 use Rattle.vm_memory.specs.Bytes.{none_out}
 use Rattle.vm_memory.specs.Loaning.Loans.{KeepsSeats}

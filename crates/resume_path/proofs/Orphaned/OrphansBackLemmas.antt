@@ -14,10 +14,10 @@ use Rattle.ledger_model.specs.Loans.{IsFresh, LoanRun, Stands, bare, loans}
 use Rattle.ledger_model.specs.Places.{in_run, place_after}
 use Rattle.ledger_model.specs.Steps.{lend, make, new_page, orphan_loan, zero_page}
 use Rattle.loan_flags.specs.Sending.{mem_kind}
-use Rattle.state_rows.specs.Machines.{place_at}
-use Rattle.state_rows.specs.declared.state.MessageRow.{MessageRow}
-use Rattle.state_rows.specs.declared.state.ServerRow.{ServerRow}
-use Rattle.state_rows.specs.declared.state.State.{State}
+use Rattle.snapshot_rows.specs.Machines.{place_at}
+use Rattle.snapshot_rows.specs.declared.state.MessageRow.{MessageRow}
+use Rattle.snapshot_rows.specs.declared.state.ServerRow.{ServerRow}
+use Rattle.snapshot_rows.specs.declared.state.State.{State}
 use Rattle.vm_memory.proofs.Changing.CrowdedLemmas.{make_bare}
 use Rattle.vm_memory.specs.Loaning.Sending.{IsFreeArrival, send_answer}
 use Rattle.vm_memory.specs.Memory.{capacity_of, ledger, processes, room_in}

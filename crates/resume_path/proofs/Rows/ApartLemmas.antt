@@ -8,11 +8,11 @@ use Rattle.std.proofs.lemmas.List.{append-nil, take_more}
 use Rattle.std.proofs.lemmas.List.Concat.{flat_map-append}
 use Rattle.std.proofs.lemmas.Option.{get_or_from_slice_get, slice_get_within}
 use Rattle.suspend_image.proofs.OrderLemmas.{servers_ascend}
-use Rattle.state_matching.proofs.ServerRows.ServersLemmas.{apart_of}
-use Rattle.state_matching.specs.ServerParts.{AreMessagesApart}
-use Rattle.state_rows.specs.declared.state.MessageRow.{MessageRow}
-use Rattle.state_rows.specs.declared.state.ServerRow.{ServerRow}
-use Rattle.state_rows.specs.declared.state.State.{State}
+use Rattle.snapshot_matching.proofs.ServerRows.ServersLemmas.{apart_of}
+use Rattle.snapshot_matching.specs.ServerParts.{AreMessagesApart}
+use Rattle.snapshot_rows.specs.declared.state.MessageRow.{MessageRow}
+use Rattle.snapshot_rows.specs.declared.state.ServerRow.{ServerRow}
+use Rattle.snapshot_rows.specs.declared.state.State.{State}
 use Rattle.resume_path.proofs.Rows.OnceLemmas.{any_append, any_in_rows, any_row_at, any_taken, any_taken_at, once_in_rows}
 use Rattle.resume_path.proofs.Rows.RowLemmas.{more_any, take_past}
 use Rattle.resume_path.proofs.Rows.ThreadRowLemmas.{same_number}

@@ -10,12 +10,12 @@ use Rattle.irq_claims.specs.ClaimsOf.{claims_of}
 use Rattle.irq_claims.specs.declared.claims.Claim.{Claim as TableClaim}
 use Rattle.irq_claims.specs.declared.claims.Claims.{Claims}
 use Rattle.xk_parts.specs.Shown.{claim_of, claims_shown, pending_shown}
-use Rattle.state_rows.proofs.KeyLemmas.{any_found, any_where_found, number_is, number_own, some_same}
-use Rattle.state_rows.specs.Order.{AreInOrder, claim_key}
+use Rattle.snapshot_rows.proofs.KeyLemmas.{any_found, any_where_found, number_is, number_own, some_same}
+use Rattle.snapshot_rows.specs.Order.{AreInOrder, claim_key}
 use Rattle.suspend_image.specs.Forms.{IsClaimRow}
-use Rattle.state_rows.specs.Machines.{claim_of as state_claim, claims_of as state_claims, pending_of}
-use Rattle.state_rows.specs.declared.state.ClaimRow.{ClaimRow}
-use Rattle.state_rows.specs.declared.state.State.{State}
+use Rattle.snapshot_rows.specs.Machines.{claim_of as state_claim, claims_of as state_claims, pending_of}
+use Rattle.snapshot_rows.specs.declared.state.ClaimRow.{ClaimRow}
+use Rattle.snapshot_rows.specs.declared.state.State.{State}
 use Rattle.xk_base.specs.Tables.Counting.{put_at}
 use Rattle.resume_path.proofs.Rows.RowLemmas.{each_in_order, found_own, next_found, none_before, take_past}
 use Rattle.resume_path.proofs.Rows.ThreadRowLemmas.{same_number}

@@ -16,16 +16,16 @@ use Rattle.machine_model.specs.Messaging.MessageCounts.{HasOne}
 use Rattle.machine_model.specs.Messaging.Messages.{is_lend, is_lend_of, loan_kind}
 use Rattle.machine_model.specs.Runs.Matched.{IsLendMatched, IsMessageLent, IsOnLoan}
 use Rattle.machine_model.specs.State.Servers.{messages_of}
-use Rattle.state_rows.proofs.KeyLemmas.{number_is, number_own}
+use Rattle.snapshot_rows.proofs.KeyLemmas.{number_is, number_own}
 use Rattle.suspend_image.proofs.OrderLemmas.{servers_ascend}
-use Rattle.state_matching.proofs.ServerRows.ServerLemmas.{few_told}
-use Rattle.state_matching.proofs.ServerRows.TotalLemmas.{listed, one_total, total}
+use Rattle.snapshot_matching.proofs.ServerRows.ServerLemmas.{few_told}
+use Rattle.snapshot_matching.proofs.ServerRows.TotalLemmas.{listed, one_total, total}
 use Rattle.suspend_image.specs.Forms.{IsField, IsMessageRow, IsServerRow}
-use Rattle.state_rows.specs.Machines.{message_of, place_at, sender_of, server_of, servers_of, thread_at_id}
-use Rattle.state_rows.specs.Order.{after, server_key}
-use Rattle.state_rows.specs.declared.state.MessageRow.{MessageRow}
-use Rattle.state_rows.specs.declared.state.ServerRow.{ServerRow}
-use Rattle.state_rows.specs.declared.state.State.{State}
+use Rattle.snapshot_rows.specs.Machines.{message_of, place_at, sender_of, server_of, servers_of, thread_at_id}
+use Rattle.snapshot_rows.specs.Order.{after, server_key}
+use Rattle.snapshot_rows.specs.declared.state.MessageRow.{MessageRow}
+use Rattle.snapshot_rows.specs.declared.state.ServerRow.{ServerRow}
+use Rattle.snapshot_rows.specs.declared.state.State.{State}
 use Rattle.xk_base.specs.Calls.Kinds.{is_answered, kind_at}
 use Rattle.xk_base.specs.declared.ids.Number.{Number}
 use Rattle.xk_base.specs.declared.ids.Pid.{Pid}

@@ -11,12 +11,12 @@ use Rattle.process_table.specs.Shown.{process_count, processes_of}
 use Rattle.process_table.specs.State.{ProcessState, dead_process, new_process, with_connection, with_heap, connection}
 use Rattle.process_table.specs.declared.table.Processes.{Processes}
 use Rattle.xk_parts.specs.Shown.{process_of}
-use Rattle.state_matching.proofs.ProcessRows.ConnectionLemmas.{processes_matched_told}
+use Rattle.snapshot_matching.proofs.ProcessRows.ConnectionLemmas.{processes_matched_told}
 use Rattle.suspend_image.specs.Forms.{IsProcRow}
-use Rattle.state_rows.specs.Machines.{no_process, process_of as row_state, processes_of as state_processes}
-use Rattle.state_matching.specs.ProcessParts.{are_apart, are_processes_told, is_within_limits}
-use Rattle.state_rows.specs.declared.state.ProcRow.{ProcRow}
-use Rattle.state_rows.specs.declared.state.State.{State}
+use Rattle.snapshot_rows.specs.Machines.{no_process, process_of as row_state, processes_of as state_processes}
+use Rattle.snapshot_matching.specs.ProcessParts.{are_apart, are_processes_told, is_within_limits}
+use Rattle.snapshot_rows.specs.declared.state.ProcRow.{ProcRow}
+use Rattle.snapshot_rows.specs.declared.state.State.{State}
 use Rattle.xk_base.specs.Tables.Circle.{IsPid, is_pid}
 use Rattle.xk_base.specs.Tables.Connections.{cid_for, cid_to, connected, has_room}
 use Rattle.xk_base.specs.Tables.Counting.{put_at}

@@ -4,7 +4,7 @@ use Rattle.std.specs.Prelude.{◌||◌, if◌then◌else◌}
 use Rattle.std.specs.List.{find, list_any}
 use Rattle.std.specs.Option.{option_map}
 use Rattle.std.proofs.lemmas.Bool.{cases_Bool}
-use Rattle.state_rows.specs.Order.{AreInOrder}
+use Rattle.snapshot_rows.specs.Order.{AreInOrder}
 use Rattle.suspend_image.specs.Forms.{ArePlaced}
 
 -- the first k rows are all where there are no more

@@ -12,11 +12,11 @@ use Rattle.std.proofs.lemmas.Option.{slice_get-get_or}
 use Rattle.server_table.specs.Listed.{HaveTwoSids, serials_of}
 use Rattle.server_table.specs.declared.table.ServerSeat.{ServerSeat}
 use Rattle.suspend_image.proofs.OrderLemmas.{servers_ascend}
-use Rattle.state_matching.proofs.ServerRows.ServerLemmas.{few_told}
-use Rattle.state_rows.specs.Order.{AreInOrder, after, server_key}
-use Rattle.state_rows.specs.Machines.{server_of}
-use Rattle.state_rows.specs.declared.state.ServerRow.{ServerRow}
-use Rattle.state_rows.specs.declared.state.State.{State}
+use Rattle.snapshot_matching.proofs.ServerRows.ServerLemmas.{few_told}
+use Rattle.snapshot_rows.specs.Order.{AreInOrder, after, server_key}
+use Rattle.snapshot_rows.specs.Machines.{server_of}
+use Rattle.snapshot_rows.specs.declared.state.ServerRow.{ServerRow}
+use Rattle.snapshot_rows.specs.declared.state.State.{State}
 use Rattle.xk_base.specs.Tables.Sids.{same_sid}
 use Rattle.xk_base.specs.declared.limits.TheConstants.{SERVER_LIMIT}
 use Rattle.resume_path.proofs.Lending.RunBackLemmas.{row_found}

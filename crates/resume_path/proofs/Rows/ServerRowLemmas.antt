@@ -3,9 +3,9 @@ use Rattle.std.proofs.Common.{◌≡◌, ℕ, ◌+◌, ◌≤◌, ◌<◌, List,
 use Rattle.std.proofs.lemmas.List.{map-append, take_more}
 use Rattle.server_table.specs.declared.table.ServerSeat.{ServerSeat}
 use Rattle.suspend_image.specs.Forms.{IsServerRow}
-use Rattle.state_rows.specs.Order.{server_key}
-use Rattle.state_rows.specs.declared.state.ServerRow.{ServerRow}
-use Rattle.state_rows.specs.declared.state.State.{State}
+use Rattle.snapshot_rows.specs.Order.{server_key}
+use Rattle.snapshot_rows.specs.declared.state.ServerRow.{ServerRow}
+use Rattle.snapshot_rows.specs.declared.state.State.{State}
 use Rattle.resume_path.proofs.Rows.RowLemmas.{each_in_order, take_past}
 use Rattle.resume_path.specs.Resumable.{IsResumable}
 use Rattle.resume_path.specs.Tables.{row_seat}

@@ -8,11 +8,11 @@ use Rattle.std.proofs.lemmas.Grind.{get_or-set_at}
 use Rattle.std.proofs.lemmas.List.{ext_get_or, get_or-set_other, length-set}
 use Rattle.std.proofs.lemmas.Option.{none-some}
 use Rattle.xk_parts.specs.Shown.{thread_of}
-use Rattle.state_rows.proofs.KeyLemmas.{Less, less_apart, less_behind, less_through, pair_is}
-use Rattle.state_rows.specs.Order.{AreInOrder, least_first, least_second, thread_key}
+use Rattle.snapshot_rows.proofs.KeyLemmas.{Less, less_apart, less_behind, less_through, pair_is}
+use Rattle.snapshot_rows.specs.Order.{AreInOrder, least_first, least_second, thread_key}
 use Rattle.suspend_image.specs.Forms.{IsThreadRow}
-use Rattle.state_rows.specs.Machines.{thread_at_id, thread_of as row_thread, threads_of as state_threads}
-use Rattle.state_rows.specs.declared.state.ThreadRow.{ThreadRow}
+use Rattle.snapshot_rows.specs.Machines.{thread_at_id, thread_of as row_thread, threads_of as state_threads}
+use Rattle.snapshot_rows.specs.declared.state.ThreadRow.{ThreadRow}
 use Rattle.thread_table.specs.ThreadMap.{no_threads}
 use Rattle.thread_table.specs.Shown.{process_count, threads_of}
 use Rattle.thread_table.specs.declared.table.Threads.{Threads}

@@ -18,11 +18,11 @@ use Rattle.server_table.specs.Listed.{listed_servers}
 use Rattle.server_table.specs.ServerState.{Server as TableServer}
 use Rattle.server_table.specs.ServersOf.{servers_of as table_servers}
 use Rattle.server_table.specs.declared.table.Servers.{Servers}
-use Rattle.state_rows.specs.Machines.{machine_of as state_machine, message_of, server_of, servers_of}
-use Rattle.state_rows.specs.Order.{server_key}
-use Rattle.state_rows.specs.declared.state.MessageRow.{MessageRow}
-use Rattle.state_rows.specs.declared.state.ServerRow.{ServerRow}
-use Rattle.state_rows.specs.declared.state.State.{State}
+use Rattle.snapshot_rows.specs.Machines.{machine_of as state_machine, message_of, server_of, servers_of}
+use Rattle.snapshot_rows.specs.Order.{server_key}
+use Rattle.snapshot_rows.specs.declared.state.MessageRow.{MessageRow}
+use Rattle.snapshot_rows.specs.declared.state.ServerRow.{ServerRow}
+use Rattle.snapshot_rows.specs.declared.state.State.{State}
 use Rattle.resume_path.proofs.Lending.RunBackLemmas.{run_back}
 use Rattle.resume_path.proofs.Seated.ShownBackLemmas.{IsRowOf, live_row, part_server, seat_here, seats_back, shown}
 use Rattle.resume_path.specs.Messages.{AreBack, is_lend_row, row_held, row_run}

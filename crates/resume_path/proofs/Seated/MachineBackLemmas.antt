@@ -17,10 +17,11 @@ use Rattle.xk_parts.specs.Shown.{process_of, thread_of}
 use Rattle.server_table.specs.Listed.{listed_servers}
 use Rattle.server_table.specs.ServersOf.{servers_of}
 use Rattle.server_table.specs.declared.table.Servers.{Servers}
-use Rattle.state_rows.proofs.KeyLemmas.{either}
-use Rattle.state_rows.specs.Machines.{claims_of as state_claims, compare_of, machine_of as state_machine, pending_of, processes_of as state_processes, reservation_of, thread_at_id, threads_of as state_threads}
-use Rattle.state_rows.specs.declared.state.MessageRow.{MessageRow}
-use Rattle.state_rows.specs.declared.state.State.{State}
+use Rattle.snapshot_rows.proofs.KeyLemmas.{either}
+use Rattle.snapshot_rows.specs.Machines.{claims_of as state_claims, compare_of, machine_of as state_machine, pending_of}
+use Rattle.snapshot_rows.specs.Machines.{processes_of as state_processes, reservation_of, thread_at_id, threads_of as state_threads}
+use Rattle.snapshot_rows.specs.declared.state.MessageRow.{MessageRow}
+use Rattle.snapshot_rows.specs.declared.state.State.{State}
 use Rattle.sv32_space.specs.Tie.{Held}
 use Rattle.thread_table.specs.Shown.{process_count as processes_threaded, threads_of}
 use Rattle.vm_memory.specs.Bytes.{MeansBytes, is_known, none_out}

@@ -27,12 +27,12 @@ use Rattle.server_table.specs.Listed.{listed_servers}
 use Rattle.server_table.specs.ServerState.{Server as TableServer}
 use Rattle.server_table.specs.ServersOf.{servers_of as table_servers}
 use Rattle.server_table.specs.declared.table.Servers.{Servers}
-use Rattle.state_rows.proofs.KeyLemmas.{mapped}
-use Rattle.state_rows.specs.Machines.{message_of, server_of, servers_of, thread_at_id}
-use Rattle.state_rows.specs.Order.{server_key}
-use Rattle.state_rows.specs.declared.state.MessageRow.{MessageRow}
-use Rattle.state_rows.specs.declared.state.ServerRow.{ServerRow}
-use Rattle.state_rows.specs.declared.state.State.{State}
+use Rattle.snapshot_rows.proofs.KeyLemmas.{mapped}
+use Rattle.snapshot_rows.specs.Machines.{message_of, server_of, servers_of, thread_at_id}
+use Rattle.snapshot_rows.specs.Order.{server_key}
+use Rattle.snapshot_rows.specs.declared.state.MessageRow.{MessageRow}
+use Rattle.snapshot_rows.specs.declared.state.ServerRow.{ServerRow}
+use Rattle.snapshot_rows.specs.declared.state.State.{State}
 use Rattle.xk_base.specs.Calls.Kinds.{is_answered}
 use Rattle.xk_base.specs.Tables.Circle.{is_pid, is_thread_id}
 use Rattle.xk_base.specs.declared.ids.Number.{Number}

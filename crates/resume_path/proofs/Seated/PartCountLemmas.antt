@@ -7,9 +7,9 @@ use Rattle.std.proofs.lemmas.List.Elements.{All-head, All-tail}
 use Rattle.machine_model.proofs.Matching.CountLemmas.{count_in-append, one_if}
 use Rattle.machine_model.specs.Messaging.MessageCounts.{HasAtMostOne, HasOne, count_at, count_in}
 use Rattle.machine_model.specs.State.Machine.{Server}
-use Rattle.state_rows.specs.Machines.{message_of, server_of}
-use Rattle.state_rows.specs.declared.state.MessageRow.{MessageRow}
-use Rattle.state_rows.specs.declared.state.ServerRow.{ServerRow}
+use Rattle.snapshot_rows.specs.Machines.{message_of, server_of}
+use Rattle.snapshot_rows.specs.declared.state.MessageRow.{MessageRow}
+use Rattle.snapshot_rows.specs.declared.state.ServerRow.{ServerRow}
 use Rattle.xk_base.specs.declared.messages.Message.{Message}
 use Rattle.resume_path.proofs.Seated.ShownBackLemmas.{part_server}
 

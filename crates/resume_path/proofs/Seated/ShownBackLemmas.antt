@@ -19,15 +19,15 @@ use Rattle.server_table.specs.ServerState.{Server as TableServer, ServerState}
 use Rattle.server_table.specs.ServersOf.{servers_of as table_servers}
 use Rattle.server_table.specs.declared.table.ServerSeat.{ServerSeat}
 use Rattle.server_table.specs.declared.table.Servers.{Servers}
-use Rattle.state_rows.proofs.KeyLemmas.{mapped}
-use Rattle.state_matching.proofs.ServerRows.SenderLemmas.{by_kind, kind_of}
-use Rattle.state_matching.proofs.ServerRows.ServerRowLemmas.{found_server}
-use Rattle.state_rows.specs.Machines.{message_of}
-use Rattle.state_rows.specs.Order.{server_key}
-use Rattle.state_rows.specs.declared.state.MessageRow.{MessageRow}
-use Rattle.state_rows.specs.declared.state.PageRow.{PageRow}
-use Rattle.state_rows.specs.declared.state.ServerRow.{ServerRow}
-use Rattle.state_rows.specs.declared.state.State.{State}
+use Rattle.snapshot_rows.proofs.KeyLemmas.{mapped}
+use Rattle.snapshot_matching.proofs.ServerRows.SenderLemmas.{by_kind, kind_of}
+use Rattle.snapshot_matching.proofs.ServerRows.ServerRowLemmas.{found_server}
+use Rattle.snapshot_rows.specs.Machines.{message_of}
+use Rattle.snapshot_rows.specs.Order.{server_key}
+use Rattle.snapshot_rows.specs.declared.state.MessageRow.{MessageRow}
+use Rattle.snapshot_rows.specs.declared.state.PageRow.{PageRow}
+use Rattle.snapshot_rows.specs.declared.state.ServerRow.{ServerRow}
+use Rattle.snapshot_rows.specs.declared.state.State.{State}
 use Rattle.resume_path.proofs.Lending.RunBackLemmas.{row_found}
 use Rattle.resume_path.proofs.Rows.SeatListLemmas.{seats_rise}
 use Rattle.resume_path.specs.Messages.{AreBack, is_lend_row, row_held, row_run, row_seat_with}

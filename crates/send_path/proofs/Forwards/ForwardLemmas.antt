@@ -30,7 +30,7 @@ use Rattle.syscall_codec.specs.declared.calls.Call.TheVariants.{ForwardMessage}
 use Rattle.thread_table.specs.ThreadMap.{is_ready as is_table_ready, receiver as table_receiver}
 use Rattle.thread_table.specs.Shown.{process_count, threads_of}
 use Rattle.vm_memory.specs.Memory.{capacity_of, ledger, processes}
-use Rattle.xk_base.specs.Calls.Replies.{message_words, plain_words}
+use Rattle.syscall_codec.specs.ReplyWords.{message_words, plain_words}
 use Rattle.xk_base.specs.Tables.Connections.{connected_to}
 use Rattle.xk_base.specs.Tables.Counting.{put_at}
 use Rattle.xk_base.specs.Tables.Sids.{serial_of}

@@ -24,7 +24,7 @@ use Rattle.thread_table.specs.ThreadMap.{is_ready as is_table_ready}
 use Rattle.thread_table.specs.Shown.{process_count, threads_of}
 use Rattle.xk_base.specs.Tables.Circle.{is_thread_id}
 use Rattle.xk_base.specs.Tables.Counting.{put_at}
-use Rattle.xk_base.specs.Calls.Replies.{message_words, plain_words}
+use Rattle.syscall_codec.specs.ReplyWords.{message_words, plain_words}
 use Rattle.xk_base.specs.declared.errors.XousError.TheVariants.{ServerNotFound}
 use Rattle.xk_base.specs.declared.ids.Serial.{Serial}
 use Rattle.xk_base.specs.declared.ids.Sid.{Sid}

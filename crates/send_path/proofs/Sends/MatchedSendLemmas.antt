@@ -14,7 +14,7 @@ use Rattle.process_table.specs.declared.table.Processes.{Processes}
 use Rattle.thread_table.specs.ThreadMap.{is_ready as is_table_ready}
 use Rattle.thread_table.specs.Shown.{threads_of}
 use Rattle.vm_memory.specs.Memory.{ledger}
-use Rattle.xk_base.specs.Calls.CallWords.{send_kind}
+use Rattle.syscall_codec.specs.CallWords.{send_kind}
 use Rattle.xk_base.specs.Calls.Kinds.{is_answered, is_waiting_kind}
 use Rattle.xk_base.specs.declared.ids.Number.{Number}
 use Rattle.xk_base.specs.declared.ids.ThreadId.{ThreadId}

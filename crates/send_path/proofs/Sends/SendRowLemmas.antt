@@ -13,9 +13,9 @@ use Rattle.machine_model.specs.State.Changes.{Change, Outcome, Refused, Retried,
 use Rattle.machine_model.specs.State.Machine.{Machine, Server}
 use Rattle.machine_model.specs.State.Servers.{change_server, is_full, server_at}
 use Rattle.machine_model.specs.State.Threads.{both_answers}
-use Rattle.xk_base.specs.Calls.CallWords.{send_address, send_cid, send_length}
+use Rattle.syscall_codec.specs.CallWords.{send_address, send_cid, send_length}
 use Rattle.xk_base.specs.Calls.Kinds.{is_answered}
-use Rattle.xk_base.specs.Calls.Replies.{message_words}
+use Rattle.syscall_codec.specs.ReplyWords.{message_words}
 use Rattle.xk_base.specs.declared.errors.XousError.{XousError}
 use Rattle.xk_base.specs.declared.errors.XousError.TheVariants.{BadAddress, BadAlignment, InvalidSyscall, MemoryInUse, ServerNotFound, ShareViolation}
 use Rattle.xk_base.specs.declared.ids.ThreadId.{ThreadId}

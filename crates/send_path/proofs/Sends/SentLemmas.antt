@@ -24,9 +24,9 @@ use Rattle.sv32_space.specs.Tie.{Held as HeldBytes}
 use Rattle.thread_table.specs.ThreadMap.{receiver as table_receiver}
 use Rattle.thread_table.specs.Shown.{process_count, threads_of}
 use Rattle.vm_memory.specs.Memory.{capacity_of, ledger}
-use Rattle.xk_base.specs.Calls.CallWords.{send_address, send_cid}
+use Rattle.syscall_codec.specs.CallWords.{send_address, send_cid}
 use Rattle.xk_base.specs.Calls.Kinds.{is_answered}
-use Rattle.xk_base.specs.Calls.Replies.{message_words}
+use Rattle.syscall_codec.specs.ReplyWords.{message_words}
 use Rattle.xk_base.specs.Numbers.Windows.{page_of}
 use Rattle.xk_base.specs.Tables.Connections.{connected_to}
 use Rattle.xk_base.specs.Tables.Counting.{put_at}

@@ -10,8 +10,8 @@ use Rattle.machine_model.specs.State.Machine.{Machine}
 use Rattle.machine_model.specs.State.Servers.{server_at}
 use Rattle.ledger_model.specs.RunTests.{any_free, any_not_sent}
 use Rattle.sv32_space.specs.Tie.{Held as HeldBytes}
-use Rattle.xk_base.specs.Calls.CallNumbers.{send_message, try_send_message}
-use Rattle.xk_base.specs.Calls.CallWords.{call_number, send_address, send_cid, send_id, send_kind, send_length, send_words}
+use Rattle.syscall_codec.specs.CallNumbers.{send_message, try_send_message}
+use Rattle.syscall_codec.specs.CallWords.{call_number, send_address, send_cid, send_id, send_kind, send_length, send_words}
 use Rattle.xk_base.specs.declared.errors.XousError.TheVariants.{MemoryInUse, ServerQueueFull}
 use Rattle.xk_base.specs.declared.ids.Number.{Number}
 use Rattle.xk_base.specs.declared.ids.ThreadId.{ThreadId}

@@ -3,12 +3,12 @@ use Rattle.std.proofs.Common.{◌≡◌, ℕ, ◌+◌, ◌-◌, ◌≤◌, Bool,
 use Rattle.std.specs.Prelude.{◌&&◌}
 use Rattle.std.proofs.lemmas.Bool.{ltb-false, leb-true, eqb-true, and_parts}
 use Rattle.std.proofs.lemmas.List.{take-append-drop, drop_at, length-append, length-drop}
-use Rattle.state_rows.specs.declared.state.PageRow.{PageRow}
-use Rattle.state_rows.specs.declared.state.OrphanRow.{OrphanRow}
-use Rattle.state_rows.specs.Machines.{contents_at}
+use Rattle.snapshot_rows.specs.declared.state.PageRow.{PageRow}
+use Rattle.snapshot_rows.specs.declared.state.OrphanRow.{OrphanRow}
+use Rattle.snapshot_rows.specs.Machines.{contents_at}
 use Rattle.suspend_image.specs.Spelling.{page_words, orphan_words, page_bytes, orphan_bytes}
 use Rattle.suspend_image.specs.Reading.{greatest, word_at}
-use Rattle.state_rows.specs.Order.{least_first, least_second}
+use Rattle.snapshot_rows.specs.Order.{least_first, least_second}
 use Rattle.suspend_image.specs.Rows.{page_bytes_at, front_word, is_holder_pid, holder_pid_at, page_at, orphan_at}
 use Rattle.suspend_image.specs.Forms.{IsWord, IsField, StandsBefore, IsPageRow, IsOrphanRow}
 use Rattle.suspend_image.proofs.SpelledAgain.PageAgainLemmas.{drop_word, front_again, holder_tells}

@@ -3,15 +3,15 @@ use Rattle.std.proofs.Common.{◌≡◌, ℕ, ◌+◌, ◌≤◌, Bool, true, fa
 use Rattle.std.specs.Prelude.{◌||◌}
 use Rattle.std.specs.List.{flat_map}
 use Rattle.std.proofs.lemmas.Bool.{ltb-false, eqb-true, eqb-false}
-use Rattle.state_rows.specs.declared.state.ProcRow.{ProcRow}
-use Rattle.state_rows.specs.declared.state.ThreadRow.{ThreadRow}
-use Rattle.state_rows.specs.declared.state.MessageRow.{MessageRow}
-use Rattle.state_rows.specs.declared.state.ServerRow.{ServerRow}
-use Rattle.state_rows.specs.declared.state.ClaimRow.{ClaimRow}
+use Rattle.snapshot_rows.specs.declared.state.ProcRow.{ProcRow}
+use Rattle.snapshot_rows.specs.declared.state.ThreadRow.{ThreadRow}
+use Rattle.snapshot_rows.specs.declared.state.MessageRow.{MessageRow}
+use Rattle.snapshot_rows.specs.declared.state.ServerRow.{ServerRow}
+use Rattle.snapshot_rows.specs.declared.state.ClaimRow.{ClaimRow}
 use Rattle.suspend_image.specs.Words.{word_bytes}
 use Rattle.suspend_image.specs.Spelling.{proc_bytes, thread_bytes, message_bytes, server_bytes, claim_bytes}
 use Rattle.suspend_image.specs.Reading.{greatest, word_at, word_in}
-use Rattle.state_rows.specs.Order.{after, least_first, least_second}
+use Rattle.snapshot_rows.specs.Order.{after, least_first, least_second}
 use Rattle.suspend_image.specs.Rows.{proc_at, waits_at, thread_at, sender_pid_at, message_at, server_at, claim_at}
 use Rattle.suspend_image.specs.Forms.{IsWithin, IsWord, IsField, IsProcRow, IsThreadRow, IsMessageRow, IsServerRow, IsClaimRow, waits_bounds}
 use Rattle.suspend_image.proofs.FoundSpelled.TakenLemmas.{step, guard_ok, neither, ok_is, IsEnd, Takes, taken_both, Words, no_words, word_taken, in_taken, if_taken, four_taken, many_taken, items_taken}

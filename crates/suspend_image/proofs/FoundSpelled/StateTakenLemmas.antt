@@ -3,21 +3,21 @@ use Rattle.std.proofs.Common.{◌≡◌, ℕ, ◌+◌, eqb, List, [], ◌∷◌,
 use Rattle.std.specs.List.{flat_map}
 use Rattle.std.proofs.lemmas.Bool.{eqb-true}
 use Rattle.std.proofs.lemmas.List.{nil_from_length, append-nil}
-use Rattle.state_rows.specs.declared.state.State.{State}
+use Rattle.snapshot_rows.specs.declared.state.State.{State}
 use Rattle.suspend_image.specs.declared.reading.numbers.Numbers.{Numbers}
 use Rattle.suspend_image.specs.declared.reading.numbers.Timer.{Timer}
 use Rattle.suspend_image.specs.declared.reading.numbers.Reserved.{Reserved}
-use Rattle.state_rows.specs.declared.state.ProcRow.{ProcRow}
-use Rattle.state_rows.specs.declared.state.ThreadRow.{ThreadRow}
-use Rattle.state_rows.specs.declared.state.ServerRow.{ServerRow}
-use Rattle.state_rows.specs.declared.state.ClaimRow.{ClaimRow}
-use Rattle.state_rows.specs.declared.state.PageRow.{PageRow}
-use Rattle.state_rows.specs.declared.state.OrphanRow.{OrphanRow}
+use Rattle.snapshot_rows.specs.declared.state.ProcRow.{ProcRow}
+use Rattle.snapshot_rows.specs.declared.state.ThreadRow.{ThreadRow}
+use Rattle.snapshot_rows.specs.declared.state.ServerRow.{ServerRow}
+use Rattle.snapshot_rows.specs.declared.state.ClaimRow.{ClaimRow}
+use Rattle.snapshot_rows.specs.declared.state.PageRow.{PageRow}
+use Rattle.snapshot_rows.specs.declared.state.OrphanRow.{OrphanRow}
 use Rattle.suspend_image.specs.Words.{word_bytes}
 use Rattle.suspend_image.specs.Spelling.{machine_bytes, proc_bytes, thread_bytes, server_bytes, claim_bytes, page_bytes, orphan_bytes, rows_bytes, parts_bytes}
 use Rattle.suspend_image.specs.Reading.{Found, greatest, word_at, rows_at}
 use Rattle.suspend_image.specs.Rows.{numbers_at, timer_at, reserved_at, proc_at, thread_at, server_at, claim_at, page_at, orphan_at}
-use Rattle.state_rows.specs.Order.{thread_key, server_key, claim_key, page_key, orphan_key}
+use Rattle.snapshot_rows.specs.Order.{thread_key, server_key, claim_key, page_key, orphan_key}
 use Rattle.suspend_image.specs.StateFaults.{state_at}
 use Rattle.suspend_image.specs.Forms.{IsWithin, IsWord, IsPid, IsTid, IsFlag, IsField, IsProcRow, IsThreadRow, IsServerRow, IsClaimRow, IsPageRow, IsOrphanRow, ArePlaced, HasForm}
 use Rattle.suspend_image.proofs.FoundSpelled.TakenLemmas.{step, ok_is, IsEnd, Takes, taken_both, Words, no_words, word_taken, in_taken, if_taken, RowTaken, rows_taken, items_taken, in_order}

@@ -10,7 +10,7 @@ use Rattle.kernel_args.proofs.NumberLemmas.{IsBytes, IsBytes-take, IsBytes-right
 use Rattle.suspend_image.specs.Words.{word, word_bytes}
 use Rattle.suspend_image.specs.Reading.{Found, ◌>>=◌, word_at, word_in, word_if, four_at, rows_at, items_at}
 use Rattle.suspend_image.specs.Forms.{IsWithin, IsWord, IsField, ArePlaced}
-use Rattle.state_rows.specs.Order.{AreInOrder}
+use Rattle.snapshot_rows.specs.Order.{AreInOrder}
 use Rattle.suspend_image.proofs.Sheets.SpellingLemmas.{word_bytes-nil, word_bytes-append}
 
 -- the value of a step that did not fail

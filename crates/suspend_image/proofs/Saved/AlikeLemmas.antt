@@ -8,9 +8,9 @@ use Rattle.std.proofs.lemmas.List.Folds.{flat_map-map}
 use Rattle.suspend_image.specs.Words.{word_bytes}
 use Rattle.suspend_image.specs.Spelling.{rows_bytes}
 use Rattle.suspend_image.specs.StateBytes.{entries}
-use Rattle.state_rows.specs.Order.{AreInOrder}
+use Rattle.snapshot_rows.specs.Order.{AreInOrder}
 use Rattle.suspend_image.specs.Forms.{ArePlaced}
-use Rattle.state_rows.proofs.KeyLemmas.{some_same}
+use Rattle.snapshot_rows.proofs.KeyLemmas.{some_same}
 use Rattle.suspend_image.proofs.Saved.EntryLemmas.{some, Has, lookup, lookup_told}
 use Rattle.suspend_image.proofs.Saved.RiseLemmas.{Rises, rises_map, entries_rise}
 use Rattle.suspend_image.proofs.Saved.RoomLemmas.{all_by}

@@ -11,12 +11,12 @@ use Rattle.xk_base.proofs.CircleLemmas.{is_pid-bounds}
 use Rattle.xk_base.proofs.CountingLemmas.{listed_below-contains}
 use Rattle.machine_model.specs.State.Machine.{Machine, Process, Claim}
 use Rattle.machine_model.specs.Runs.Matched.{Matched}
-use Rattle.state_rows.specs.declared.state.ClaimRow.{ClaimRow}
-use Rattle.state_rows.specs.declared.state.ProcRow.{ProcRow}
-use Rattle.state_rows.specs.Order.{claim_key, AreInOrder}
+use Rattle.snapshot_rows.specs.declared.state.ClaimRow.{ClaimRow}
+use Rattle.snapshot_rows.specs.declared.state.ProcRow.{ProcRow}
+use Rattle.snapshot_rows.specs.Order.{claim_key, AreInOrder}
 use Rattle.suspend_image.specs.Reading.{greatest}
 use Rattle.suspend_image.specs.Forms.{IsWord, IsFlag, IsProcRow, IsClaimRow}
-use Rattle.state_rows.specs.Machines.{process_of, no_process, processes_of, claim_of, claims_of, pending_of}
+use Rattle.snapshot_rows.specs.Machines.{process_of, no_process, processes_of, claim_of, claims_of, pending_of}
 use Rattle.suspend_image.specs.SavedRows.{flag, proc_row, claim_row}
 use Rattle.suspend_image.specs.StateBytes.{pids, claim_entries}
 use Rattle.suspend_image.specs.Saveable.{IsSaveable}

@@ -14,16 +14,16 @@ use Rattle.xk_base.specs.Tables.Circle.{is_pid}
 use Rattle.xk_base.proofs.CircleLemmas.{is_pid-bounds}
 use Rattle.ledger_model.specs.Ledger.{Contents, Console, Bytes, Page, PageLoan, Orphan}
 use Rattle.ledger_model.specs.Places.{is_user_place, is_place_in, same_place}
-use Rattle.state_rows.specs.declared.state.OrphanRow.{OrphanRow}
-use Rattle.state_rows.specs.declared.state.PageRow.{PageRow}
-use Rattle.state_rows.specs.Order.{page_key, orphan_key}
+use Rattle.snapshot_rows.specs.declared.state.OrphanRow.{OrphanRow}
+use Rattle.snapshot_rows.specs.declared.state.PageRow.{PageRow}
+use Rattle.snapshot_rows.specs.Order.{page_key, orphan_key}
 use Rattle.suspend_image.specs.Reading.{greatest}
 use Rattle.suspend_image.specs.Forms.{IsWithin, IsField, StandsBefore, IsPageRow, IsOrphanRow, ArePlaced}
-use Rattle.state_rows.specs.Machines.{contents_at, ledger_page, ledger_orphan, loan_kind_of}
+use Rattle.snapshot_rows.specs.Machines.{contents_at, ledger_page, ledger_orphan, loan_kind_of}
 use Rattle.suspend_image.specs.Spelling.{page_words, page_bytes, orphan_words, orphan_bytes}
 use Rattle.suspend_image.specs.SavedRows.{right_number, loan_number, holder_pid, holder_page, kind_of_loan, number_of_loan, page_row, orphan_row}
 use Rattle.suspend_image.specs.StateBytes.{bytes_of, saved_page, saved_orphan}
-use Rattle.state_rows.proofs.KeyLemmas.{Less}
+use Rattle.snapshot_rows.proofs.KeyLemmas.{Less}
 use Rattle.suspend_image.proofs.Saved.EntryLemmas.{some, Tells}
 use Rattle.suspend_image.proofs.Saved.RiseLemmas.{Rises, Follows, first_low, second_low, place_key}
 use Rattle.suspend_image.proofs.Saved.ThreadAgainLemmas.{word}

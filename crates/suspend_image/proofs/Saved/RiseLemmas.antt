@@ -12,8 +12,8 @@ use Rattle.xk_base.proofs.CountingLemmas.{listed_below-ascends}
 use Rattle.ledger_model.specs.Places.{listed_places, is_before}
 use Rattle.ledger_model.proofs.Loans.NumberingLemmas.{listed_places-ascends}
 use Rattle.suspend_image.specs.StateBytes.{entries}
-use Rattle.state_rows.specs.Order.{after, least_first, least_second, AreInOrder}
-use Rattle.state_rows.proofs.KeyLemmas.{Less, either}
+use Rattle.snapshot_rows.specs.Order.{after, least_first, least_second, AreInOrder}
+use Rattle.snapshot_rows.proofs.KeyLemmas.{Less, either}
 use Rattle.suspend_image.proofs.Saved.RoomLemmas.{by_recursion}
 
 -- each is below all behind it

@@ -9,16 +9,17 @@ use Rattle.xk_base.specs.declared.messages.MsgKind.TheVariants.{Scalar}
 use Rattle.xk_base.specs.Calls.Kinds.{kind_number, kind_at}
 use Rattle.ledger_model.specs.Ledger.{Console, Bytes}
 use Rattle.machine_model.specs.State.Machine.{Reservation}
-use Rattle.state_rows.specs.declared.state.ProcRow.{ProcRow}
-use Rattle.state_rows.specs.declared.state.ThreadRow.{ThreadRow}
-use Rattle.state_rows.specs.declared.state.MessageRow.{MessageRow}
-use Rattle.state_rows.specs.declared.state.ServerRow.{ServerRow}
-use Rattle.state_rows.specs.declared.state.ClaimRow.{ClaimRow}
-use Rattle.state_rows.specs.declared.state.PageRow.{PageRow}
-use Rattle.state_rows.specs.declared.state.OrphanRow.{OrphanRow}
+use Rattle.snapshot_rows.specs.declared.state.ProcRow.{ProcRow}
+use Rattle.snapshot_rows.specs.declared.state.ThreadRow.{ThreadRow}
+use Rattle.snapshot_rows.specs.declared.state.MessageRow.{MessageRow}
+use Rattle.snapshot_rows.specs.declared.state.ServerRow.{ServerRow}
+use Rattle.snapshot_rows.specs.declared.state.ClaimRow.{ClaimRow}
+use Rattle.snapshot_rows.specs.declared.state.PageRow.{PageRow}
+use Rattle.snapshot_rows.specs.declared.state.OrphanRow.{OrphanRow}
 use Rattle.suspend_image.specs.Reading.{greatest}
 use Rattle.suspend_image.specs.Forms.{IsWithin, IsField, IsFlag, IsProcRow, IsMessageRow, waits_bounds}
-use Rattle.state_rows.specs.Machines.{contents_at, thread_at_id, place_at, process_of, thread_of, thread_state, message_of, server_of, claim_of, pending_of, loan_kind_of, ledger_page, ledger_orphan}
+use Rattle.snapshot_rows.specs.Machines.{contents_at, thread_at_id, place_at, process_of, thread_of, thread_state, message_of, server_of}
+use Rattle.snapshot_rows.specs.Machines.{claim_of, pending_of, loan_kind_of, ledger_page, ledger_orphan}
 use Rattle.suspend_image.specs.Spelling.{thread_bytes, server_bytes, claim_bytes, page_words, page_bytes, orphan_words, orphan_bytes}
 use Rattle.suspend_image.specs.SavedRows.{flag, reserved_pid, reserved_tid, reserved_address, proc_row, state_number, state_waits, sender_pid, sender_tid, message_row, claim_row, right_number, loan_number, holder_pid, holder_page, kind_of_loan, number_of_loan, page_row}
 use Rattle.suspend_image.specs.StateBytes.{bytes_of, saved_thread, saved_server, saved_page, saved_orphan}

@@ -21,11 +21,11 @@ use Rattle.machine_model.specs.State.Machine.{Machine, Server, Thread}
 use Rattle.machine_model.specs.State.Servers.{messages_of}
 use Rattle.machine_model.specs.Runs.Matched.{Matched, IsSized, is_sent_as, waits_for, is_waiting_for}
 use Rattle.machine_model.proofs.Matching.CountLemmas.{none_pass}
-use Rattle.state_rows.specs.declared.state.ServerRow.{ServerRow}
-use Rattle.state_rows.specs.Order.{server_key, AreInOrder}
+use Rattle.snapshot_rows.specs.declared.state.ServerRow.{ServerRow}
+use Rattle.snapshot_rows.specs.Order.{server_key, AreInOrder}
 use Rattle.suspend_image.specs.Reading.{greatest}
 use Rattle.suspend_image.specs.Forms.{IsWord, IsWithin, IsField, IsMessageRow, IsServerRow}
-use Rattle.state_rows.specs.Machines.{message_of, server_of, servers_of, thread_at_id}
+use Rattle.snapshot_rows.specs.Machines.{message_of, server_of, servers_of, thread_at_id}
 use Rattle.suspend_image.specs.SavedRows.{sender_pid, sender_tid, message_row, server_row}
 use Rattle.suspend_image.specs.StateBytes.{server_entries}
 use Rattle.suspend_image.specs.Saveable.{IsMessageSaveable, IsSaveable}

@@ -14,17 +14,17 @@ use Rattle.ledger_model.specs.Places.{is_user_place, same_place}
 use Rattle.ledger_model.proofs.Loans.NumberingLemmas.{listed_places-contains, is_place_in-user}
 use Rattle.machine_model.specs.State.Machine.{Machine, Reservation}
 use Rattle.machine_model.specs.Runs.Matched.{Matched}
-use Rattle.state_rows.specs.declared.state.State.{State}
+use Rattle.snapshot_rows.specs.declared.state.State.{State}
 use Rattle.suspend_image.specs.Words.{word, word_bytes}
 use Rattle.suspend_image.specs.Reading.{greatest}
-use Rattle.state_rows.specs.Order.{page_key, orphan_key}
+use Rattle.snapshot_rows.specs.Order.{page_key, orphan_key}
 use Rattle.suspend_image.specs.Spelling.{machine_bytes, proc_bytes, thread_bytes, server_bytes, claim_bytes, page_bytes, orphan_bytes, rows_bytes, parts_bytes, with_header, state_bytes}
 use Rattle.suspend_image.specs.Forms.{IsField, IsPageRow, IsOrphanRow, ArePlaced, HasForm, Spells}
-use Rattle.state_rows.specs.Machines.{thread_at_id, ledger_page, ledger_orphan, ledger_of, machine_of}
+use Rattle.snapshot_rows.specs.Machines.{thread_at_id, ledger_page, ledger_orphan, ledger_of, machine_of}
 use Rattle.suspend_image.specs.SavedRows.{flag, reserved_pid, reserved_tid, reserved_address, machine_row, proc_row, thread_row, server_row, claim_row}
 use Rattle.suspend_image.specs.StateBytes.{pids, thread_entries, server_entries, claim_entries, page_entries, orphan_entries, saved_process, saved_thread, saved_server, saved_claim, saved_page, saved_orphan, saved_parts, saved_bytes}
 use Rattle.suspend_image.specs.Saveable.{IsSaveable, SpellsMachine}
-use Rattle.state_rows.proofs.KeyLemmas.{Less}
+use Rattle.snapshot_rows.proofs.KeyLemmas.{Less}
 use Rattle.suspend_image.proofs.SpellsLemmas.{spelled_once}
 use Rattle.suspend_image.proofs.Saved.EntryLemmas.{some, At, Has, has_of, entries_hold, found_told, lookup_told}
 use Rattle.suspend_image.proofs.Saved.RiseLemmas.{Rises, place_key, places_rise, entries_rise, all_follow_none}

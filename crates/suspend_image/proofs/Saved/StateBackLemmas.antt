@@ -17,19 +17,20 @@ use Rattle.ledger_model.specs.Places.{same_place}
 use Rattle.ledger_model.proofs.Loans.NumberingLemmas.{listed_places-contains, is_place_in-user}
 use Rattle.machine_model.specs.State.Machine.{Machine}
 use Rattle.machine_model.specs.Runs.Matched.{Matched}
-use Rattle.state_rows.specs.declared.state.State.{State}
-use Rattle.state_rows.specs.declared.state.ProcRow.{ProcRow}
-use Rattle.state_rows.specs.declared.state.ThreadRow.{ThreadRow}
-use Rattle.state_rows.specs.declared.state.PageRow.{PageRow}
-use Rattle.state_rows.specs.declared.state.OrphanRow.{OrphanRow}
+use Rattle.snapshot_rows.specs.declared.state.State.{State}
+use Rattle.snapshot_rows.specs.declared.state.ProcRow.{ProcRow}
+use Rattle.snapshot_rows.specs.declared.state.ThreadRow.{ThreadRow}
+use Rattle.snapshot_rows.specs.declared.state.PageRow.{PageRow}
+use Rattle.snapshot_rows.specs.declared.state.OrphanRow.{OrphanRow}
 use Rattle.suspend_image.specs.Words.{word_bytes}
-use Rattle.state_rows.specs.Order.{thread_key, server_key, claim_key, page_key, orphan_key, least_first, least_second}
+use Rattle.snapshot_rows.specs.Order.{thread_key, server_key, claim_key, page_key, orphan_key, least_first, least_second}
 use Rattle.suspend_image.specs.Spelling.{machine_bytes, proc_bytes, thread_bytes, server_bytes, claim_bytes, page_bytes, orphan_bytes, rows_bytes, parts_bytes, with_header, state_bytes}
 use Rattle.suspend_image.specs.Forms.{IsFlag, IsProcRow, IsThreadRow, IsServerRow, IsClaimRow, IsPageRow, IsOrphanRow, Spells}
-use Rattle.state_rows.specs.Machines.{thread_at_id, place_at, process_of, no_process, processes_of, thread_of, server_of, claim_of, pending_of, ledger_page, ledger_orphan, machine_of}
+use Rattle.snapshot_rows.specs.Machines.{thread_at_id, place_at, process_of, no_process, processes_of, thread_of, server_of, claim_of}
+use Rattle.snapshot_rows.specs.Machines.{pending_of, ledger_page, ledger_orphan, machine_of}
 use Rattle.suspend_image.specs.SavedRows.{machine_row, proc_row}
 use Rattle.suspend_image.specs.StateBytes.{pids, thread_entries, server_entries, claim_entries, page_entries, orphan_entries, saved_process, saved_thread, saved_server, saved_claim, saved_page, saved_orphan, saved_parts, saved_bytes}
-use Rattle.state_rows.proofs.KeyLemmas.{Less, less_apart, less_through, less_behind}
+use Rattle.snapshot_rows.proofs.KeyLemmas.{Less, less_apart, less_through, less_behind}
 use Rattle.suspend_image.proofs.OrderLemmas.{pages_ascend, orphans_ascend}
 use Rattle.suspend_image.proofs.Saved.AlikeLemmas.{rows_rise, rows_all, placed_all, table_same, rows_alike}
 use Rattle.suspend_image.proofs.Saved.EntryLemmas.{Has, has_of}

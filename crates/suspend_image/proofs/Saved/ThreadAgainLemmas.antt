@@ -9,15 +9,15 @@ use Rattle.xk_base.specs.Tables.Circle.{is_pid, is_thread_id, listed_ids, same_t
 use Rattle.xk_base.proofs.CircleLemmas.{is_pid-bounds, listed_ids-contains, same_ids}
 use Rattle.machine_model.specs.State.Machine.{Machine, Thread, ThreadState, Ready, Receiving, Waiting, Joining, Idle}
 use Rattle.machine_model.specs.Runs.Matched.{Matched}
-use Rattle.state_rows.specs.declared.state.ThreadRow.{ThreadRow}
-use Rattle.state_rows.specs.Order.{thread_key, AreInOrder}
+use Rattle.snapshot_rows.specs.declared.state.ThreadRow.{ThreadRow}
+use Rattle.snapshot_rows.specs.Order.{thread_key, AreInOrder}
 use Rattle.suspend_image.specs.Reading.{greatest}
 use Rattle.suspend_image.specs.Forms.{IsWord, IsWithin, IsThreadRow, waits_bounds}
-use Rattle.state_rows.specs.Machines.{thread_of, thread_state, threads_of}
+use Rattle.snapshot_rows.specs.Machines.{thread_of, thread_state, threads_of}
 use Rattle.suspend_image.specs.SavedRows.{thread_row, state_number, state_waits}
 use Rattle.suspend_image.specs.StateBytes.{thread_entries}
 use Rattle.suspend_image.specs.Saveable.{IsSaveable}
-use Rattle.state_rows.proofs.KeyLemmas.{Less}
+use Rattle.snapshot_rows.proofs.KeyLemmas.{Less}
 use Rattle.suspend_image.proofs.Saved.EntryLemmas.{At, entries_hold, has_of, lookup_told, found_told, tells_each}
 use Rattle.suspend_image.proofs.Saved.RiseLemmas.{Follows, first_low, second_low, in_order, entries_rise, ids_rise, id_key, all_follow_none}
 use Rattle.suspend_image.proofs.Saved.RoomLemmas.{by_recursion, all_by}

@@ -5,10 +5,10 @@ use Rattle.std.proofs.lemmas.Bool.{le-ltb, le-leb, ne_eqb}
 use Rattle.std.proofs.lemmas.List.{take_at, drop_at, length-append, length-take, length-drop}
 use Rattle.byteorder.specs.Endian.{little_number}
 use Rattle.kernel_args.proofs.NumberLemmas.{number_again}
-use Rattle.state_rows.specs.declared.state.PageRow.{PageRow}
-use Rattle.state_rows.specs.declared.state.OrphanRow.{OrphanRow}
+use Rattle.snapshot_rows.specs.declared.state.PageRow.{PageRow}
+use Rattle.snapshot_rows.specs.declared.state.OrphanRow.{OrphanRow}
 use Rattle.suspend_image.specs.Words.{word, word_bytes}
-use Rattle.state_rows.specs.Machines.{contents_at}
+use Rattle.snapshot_rows.specs.Machines.{contents_at}
 use Rattle.suspend_image.specs.Spelling.{page_bytes, orphan_bytes}
 use Rattle.suspend_image.specs.Reading.{greatest}
 use Rattle.suspend_image.specs.Rows.{page_bytes_at, front_word, is_holder_pid, holder_pid_at, page_at, orphan_at}

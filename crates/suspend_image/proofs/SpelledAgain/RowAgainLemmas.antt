@@ -2,12 +2,12 @@
 use Rattle.std.proofs.Common.{◌≡◌, ℕ, ◌+◌, ◌≤◌, Bool, true, false, not, cond, eqb, ltb, List, [], ◌∷◌, ◌++◌, length, Option, Ok, refl, sym, ap, ◌∙◌, append_assoc, arith}
 use Rattle.std.specs.List.{flat_map, AllByRecursion}
 use Rattle.std.proofs.lemmas.Bool.{ne_eqb, le-ltb}
-use Rattle.state_rows.specs.declared.state.State.{State}
-use Rattle.state_rows.specs.declared.state.ProcRow.{ProcRow}
-use Rattle.state_rows.specs.declared.state.ThreadRow.{ThreadRow}
-use Rattle.state_rows.specs.declared.state.MessageRow.{MessageRow}
-use Rattle.state_rows.specs.declared.state.ServerRow.{ServerRow}
-use Rattle.state_rows.specs.declared.state.ClaimRow.{ClaimRow}
+use Rattle.snapshot_rows.specs.declared.state.State.{State}
+use Rattle.snapshot_rows.specs.declared.state.ProcRow.{ProcRow}
+use Rattle.snapshot_rows.specs.declared.state.ThreadRow.{ThreadRow}
+use Rattle.snapshot_rows.specs.declared.state.MessageRow.{MessageRow}
+use Rattle.snapshot_rows.specs.declared.state.ServerRow.{ServerRow}
+use Rattle.snapshot_rows.specs.declared.state.ClaimRow.{ClaimRow}
 use Rattle.suspend_image.specs.declared.reading.numbers.Numbers.{Numbers}
 use Rattle.suspend_image.specs.declared.reading.numbers.Timer.{Timer}
 use Rattle.suspend_image.specs.declared.reading.numbers.Reserved.{Reserved}

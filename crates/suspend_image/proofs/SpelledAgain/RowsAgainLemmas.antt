@@ -7,7 +7,7 @@ use Rattle.suspend_image.specs.Words.{word, word_bytes}
 use Rattle.suspend_image.specs.Spelling.{rows_bytes}
 use Rattle.suspend_image.specs.Reading.{Found, word_at, rows_at, items_at}
 use Rattle.suspend_image.specs.Forms.{IsWord, ArePlaced}
-use Rattle.state_rows.specs.Order.{AreInOrder}
+use Rattle.snapshot_rows.specs.Order.{AreInOrder}
 use Rattle.suspend_image.proofs.SpelledAgain.WordAgainLemmas.{then_ok, word_again, word_last}
 
 -- a row is read again where it stands in order and before so many bytes

@@ -2,11 +2,11 @@
 use Rattle.std.proofs.Common.{◌≡◌, ℕ, List, [], ◌++◌, length, None, Result, Ok, refl, sym, ap, ◌∙◌}
 use Rattle.std.specs.List.{flat_map}
 use Rattle.std.proofs.lemmas.List.{append-nil}
-use Rattle.state_rows.specs.declared.state.State.{State}
+use Rattle.snapshot_rows.specs.declared.state.State.{State}
 use Rattle.suspend_image.specs.Spelling.{proc_bytes, thread_bytes, server_bytes, claim_bytes, page_bytes, orphan_bytes, rows_bytes, parts_bytes}
 use Rattle.suspend_image.specs.Reading.{rows_at, items_at}
 use Rattle.suspend_image.specs.Rows.{proc_at, thread_at, server_at, claim_at, page_at, orphan_at}
-use Rattle.state_rows.specs.Order.{thread_key, server_key, claim_key, page_key, orphan_key}
+use Rattle.snapshot_rows.specs.Order.{thread_key, server_key, claim_key, page_key, orphan_key}
 use Rattle.suspend_image.specs.StateFaults.{state_at}
 use Rattle.suspend_image.specs.Forms.{IsProcRow, IsThreadRow, IsServerRow, IsClaimRow, IsPageRow, IsOrphanRow, HasForm}
 use Rattle.suspend_image.proofs.SpelledAgain.WordAgainLemmas.{then_ok}

@@ -3,11 +3,11 @@
 ghost use Rattle.std.specs.Prelude.{◌≡◌, None};
 ghost use Rattle.suspend_image.specs.Reading.{Gives, rows_at};
 ghost use Rattle.suspend_image.specs.Rows.{claim_at};
-ghost use Rattle.state_rows.specs.Order.{claim_key};
+ghost use Rattle.snapshot_rows.specs.Order.{claim_key};
 
 use crate::reading::broken::Broken;
 use crate::reading::words::{GREATEST, after, word, word_in};
-use state_rows::ClaimRow;
+use snapshot_rows::ClaimRow;
 use std::alloc::Global;
 use xk_base::Row;
 

@@ -4,12 +4,12 @@ ghost use Rattle.std.specs.Prelude.{◌≡◌, None};
 ghost use Rattle.suspend_image.specs.Reading.{Gives, rows_at};
 ghost use Rattle.suspend_image.specs.Rows.{page_bytes_at, front_word as front_word_of, is_holder_pid as is_holder_pid_of, holder_pid_at};
 ghost use Rattle.suspend_image.specs.Rows.{page_at, orphan_at};
-ghost use Rattle.state_rows.specs.Order.{page_key, orphan_key};
+ghost use Rattle.snapshot_rows.specs.Order.{page_key, orphan_key};
 
 use crate::reading::broken::Broken;
 use crate::reading::words::{GREATEST, least_first, least_second, word, word_if, word_in};
 use byteorder::{ByteOrder, LittleEndian};
-use state_rows::{OrphanRow, PageRow};
+use snapshot_rows::{OrphanRow, PageRow};
 use std::alloc::Global;
 use xk_base::Row;
 use xk_base::limits::PAGE_SIZE;

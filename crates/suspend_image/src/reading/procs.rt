@@ -6,7 +6,7 @@ ghost use Rattle.suspend_image.specs.Rows.{proc_at};
 
 use crate::reading::broken::Broken;
 use crate::reading::words::{word, word_in};
-use state_rows::ProcRow;
+use snapshot_rows::ProcRow;
 use std::alloc::Global;
 use xk_base::Row;
 

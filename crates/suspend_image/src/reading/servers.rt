@@ -3,11 +3,11 @@
 ghost use Rattle.std.specs.Prelude.{◌≡◌, None};
 ghost use Rattle.suspend_image.specs.Reading.{Gives, items_at, rows_at};
 ghost use Rattle.suspend_image.specs.Rows.{sender_pid_at, message_at, server_at};
-ghost use Rattle.state_rows.specs.Order.{server_key};
+ghost use Rattle.snapshot_rows.specs.Order.{server_key};
 
 use crate::reading::broken::Broken;
 use crate::reading::words::{GREATEST, after, four, word, word_if, word_in};
-use state_rows::{MessageRow, ServerRow};
+use snapshot_rows::{MessageRow, ServerRow};
 use std::alloc::Global;
 use xk_base::Row;
 use xk_base::limits::TID_LIMIT;

@@ -3,11 +3,11 @@
 ghost use Rattle.std.specs.Prelude.{◌≡◌, None};
 ghost use Rattle.suspend_image.specs.Reading.{Gives, word_at, items_at, rows_at};
 ghost use Rattle.suspend_image.specs.Rows.{waits_at, thread_at};
-ghost use Rattle.state_rows.specs.Order.{thread_key};
+ghost use Rattle.snapshot_rows.specs.Order.{thread_key};
 
 use crate::reading::broken::Broken;
 use crate::reading::words::{least_first, least_second, word, word_in};
-use state_rows::ThreadRow;
+use snapshot_rows::ThreadRow;
 use std::alloc::Global;
 use xk_base::Row;
 use xk_base::limits::TID_LIMIT;

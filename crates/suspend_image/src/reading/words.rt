@@ -2,7 +2,7 @@
 
 ghost use Rattle.std.specs.Prelude.{◌≡◌, ◌-◌, length};
 ghost use Rattle.suspend_image.specs.Reading.{Gives, word_at, word_in as word_in_at, word_if as word_if_at, four_at};
-ghost use Rattle.state_rows.specs.Order.{after as after_of, least_first as least_first_of, least_second as least_second_of};
+ghost use Rattle.snapshot_rows.specs.Order.{after as after_of, least_first as least_first_of, least_second as least_second_of};
 
 use crate::reading::broken::Broken;
 use byteorder::{ByteOrder, LittleEndian};

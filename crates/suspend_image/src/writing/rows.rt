@@ -5,7 +5,7 @@ ghost use Rattle.suspend_image.specs.Sheets.{HasRoom, appended};
 ghost use Rattle.suspend_image.specs.Spelling.{thread_bytes, message_bytes, claim_bytes, page_words, orphan_words};
 
 use crate::writing::sheet::Sheet;
-use state_rows::{ClaimRow, MessageRow, OrphanRow, PageRow, ThreadRow};
+use snapshot_rows::{ClaimRow, MessageRow, OrphanRow, PageRow, ThreadRow};
 
 /// Appends a thread.
 #[tactic(auto, unfolding(crate::specs::Spelling::thread_bytes))]

@@ -11,7 +11,7 @@ use Rattle.machine_model.specs.State.Threads.{answer_to, give_answers, thread_id
 use Rattle.vm_memory.specs.Memory.{processes}
 use Rattle.xk_base.proofs.CircleLemmas.{is_pid-bounds}
 use Rattle.xk_base.specs.Tables.Circle.{is_pid, thread_ids}
-use Rattle.xk_base.specs.Calls.Replies.{scalar1_words}
+use Rattle.syscall_codec.specs.ReplyWords.{scalar1_words}
 use Rattle.xk_base.specs.declared.ids.ThreadId.{ThreadId}
 use Rattle.xk_base.specs.declared.records.What.TheVariants.{Reply}
 use Rattle.xk_kernel.specs.Sound.{IsWhole}

@@ -19,10 +19,10 @@ use Rattle.syscall_codec.specs.Calls.{Asks}
 use Rattle.syscall_codec.specs.declared.calls.Call.{Call}
 use Rattle.syscall_codec.specs.declared.calls.Call.TheVariants.{MapMemory, Yield, ClaimInterrupt, FreeInterrupt, IncreaseHeap, DecreaseHeap, UpdateMemoryFlags, CreateServerWithAddress, ReceiveMessage, SendMessage, Connect, CreateThread, UnmapMemory, ReturnMemory, TerminateProcess, TrySendMessage, TryConnect}
 use Rattle.syscall_codec.specs.declared.calls.Call.TheVariants.{ReturnScalar1, ReturnScalar2, TryReceiveMessage, JoinThread, DestroyServer, GetThreadId, GetProcessId, ForwardMessage}
-use Rattle.xk_base.specs.Calls.CallNumbers.{connect, is_call_number, join_thread, receive_message, send_message, try_send_message}
-use Rattle.xk_base.specs.Calls.CallWords.{call_number, is_refused_to_handler, send_kind}
+use Rattle.syscall_codec.specs.CallNumbers.{connect, is_call_number, join_thread, receive_message, send_message, try_send_message}
+use Rattle.syscall_codec.specs.CallWords.{call_number, is_refused_to_handler, send_kind}
 use Rattle.xk_base.specs.Calls.Kinds.{is_waiting_kind}
-use Rattle.xk_base.specs.Calls.Replies.{plain_words, scalar1_words, thread_words}
+use Rattle.syscall_codec.specs.ReplyWords.{plain_words, scalar1_words, thread_words}
 use Rattle.xk_base.specs.declared.errors.XousError.{XousError}
 use Rattle.xk_base.specs.declared.errors.XousError.TheVariants.{InvalidSyscall, ServerNotFound, UnhandledSyscall}
 use Rattle.xk_base.specs.declared.ids.Sid.{Sid}

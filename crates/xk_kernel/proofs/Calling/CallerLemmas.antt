@@ -15,8 +15,13 @@ use Rattle.machine_model.specs.State.Order.{turn}
 use Rattle.machine_model.specs.Calling.ThreadCalls.{create_call, create_refusals, create_served, join_call, join_refusals, join_served, process_id_call, thread_id_call, yield_call}
 use Rattle.machine_model.specs.State.Threads.{with_state}
 use Rattle.xk_base.specs.Tables.Circle.{same_thread}
-use Rattle.xk_base.specs.Calls.CallNumbers.{map_memory, yield_turn, increase_heap, decrease_heap, update_memory_flags, create_server_with_address, connect as connect_number, create_thread, unmap_memory, claim_interrupt, free_interrupt, try_connect as try_connect_number, join_thread, get_thread_id, get_process_id}
-use Rattle.xk_base.specs.Calls.CallWords.{call_number, heap_bytes, interrupt_argument, interrupt_handler, interrupt_number, join_tid, map_flags, map_phys, map_size, map_virt, range_address, range_flags, range_size, thread_arguments, thread_entry, thread_sp}
+use Rattle.syscall_codec.specs.CallNumbers.{map_memory, yield_turn, increase_heap, decrease_heap, update_memory_flags}
+use Rattle.syscall_codec.specs.CallNumbers.{create_server_with_address, connect as connect_number, create_thread, unmap_memory}
+use Rattle.syscall_codec.specs.CallNumbers.{claim_interrupt, free_interrupt, try_connect as try_connect_number, join_thread, get_thread_id}
+use Rattle.syscall_codec.specs.CallNumbers.{get_process_id}
+use Rattle.syscall_codec.specs.CallWords.{call_number, heap_bytes, interrupt_argument, interrupt_handler, interrupt_number, join_tid}
+use Rattle.syscall_codec.specs.CallWords.{map_flags, map_phys, map_size, map_virt, range_address, range_flags, range_size, thread_arguments}
+use Rattle.syscall_codec.specs.CallWords.{thread_entry, thread_sp}
 use Rattle.xk_base.specs.declared.errors.XousError.{XousError}
 use Rattle.xk_base.specs.declared.errors.XousError.TheVariants.{ServerNotFound}
 use Rattle.xk_kernel.specs.Calling.{is_plain_call, is_plain_number, plain_numbers}

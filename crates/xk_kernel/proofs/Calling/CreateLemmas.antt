@@ -7,7 +7,7 @@ use Rattle.xk_base.specs.declared.errors.XousError.TheVariants.{BadAlignment, Th
 use Rattle.xk_base.specs.declared.ids.Tid.{Tid}
 use Rattle.xk_base.specs.Tables.Circle.{same_thread}
 use Rattle.xk_base.specs.Tables.Counting.{put_at}
-use Rattle.xk_base.specs.Calls.Replies.{thread_words}
+use Rattle.syscall_codec.specs.ReplyWords.{thread_words}
 use Rattle.machine_model.specs.State.Changes.{Outcome, Refused, Served, answering, refused_or, unless_refused}
 use Rattle.machine_model.specs.State.Machine.{Machine}
 use Rattle.machine_model.specs.Calling.ThreadCalls.{create_refusals, create_served, free_tid}

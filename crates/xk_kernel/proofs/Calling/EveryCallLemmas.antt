@@ -35,8 +35,8 @@ use Rattle.machine_model.specs.Runs.Matched.{Matched}
 use Rattle.machine_model.specs.State.Changes.{Told, call_settled}
 use Rattle.machine_model.specs.State.Machine.{Machine}
 use Rattle.machine_model.specs.State.Order.{ready_at}
-use Rattle.xk_base.specs.Calls.CallNumbers.{call_numbers, is_call_number}
-use Rattle.xk_base.specs.Calls.CallWords.{call_number, send_kind}
+use Rattle.syscall_codec.specs.CallNumbers.{call_numbers, is_call_number}
+use Rattle.syscall_codec.specs.CallWords.{call_number, send_kind}
 use Rattle.xk_base.specs.Calls.Kinds.{is_answered, is_waiting_kind, kind_at}
 use Rattle.xk_base.specs.declared.errors.XousError.TheVariants.{UnhandledSyscall}
 use Rattle.xk_base.specs.declared.messages.MsgKind.{MsgKind}

@@ -10,7 +10,7 @@ use Rattle.machine_model.specs.State.Machine.{Machine, Thread}
 use Rattle.machine_model.specs.State.Threads.{Answers, answer_to, give_answers, no_answers, thread_id, with_answer}
 use Rattle.xk_base.proofs.CircleLemmas.{same_ids}
 use Rattle.xk_base.specs.Tables.Circle.{id_at, is_thread_id, same_thread, thread_ids}
-use Rattle.xk_base.specs.Calls.Replies.{scalar1_words}
+use Rattle.syscall_codec.specs.ReplyWords.{scalar1_words}
 use Rattle.xk_base.specs.declared.ids.ThreadId.{ThreadId}
 use Rattle.xk_base.specs.declared.records.What.TheVariants.{Reply}
 use Rattle.xk_kernel.proofs.Calling.ReplyLemmas.{nobody_answered, replies-all, replies-are, replies-more, replies-none, replies-skip, replies_until, same_answers}

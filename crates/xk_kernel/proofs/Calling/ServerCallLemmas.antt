@@ -44,7 +44,7 @@ use Rattle.server_table.proofs.AnsweredLemmas.{free_seat_is, full, state}
 use Rattle.server_table.proofs.Lemmas.{live_below}
 use Rattle.vm_memory.specs.Memory.{ledger}
 use Rattle.sv32_space.specs.Tie.{Held}
-use Rattle.xk_base.specs.Calls.Replies.{connection_words, new_server_words}
+use Rattle.syscall_codec.specs.ReplyWords.{connection_words, new_server_words}
 use Rattle.xk_kernel.specs.Calling.{connected_outcome}
 use Rattle.xk_kernel.specs.Sound.{IsWhole}
 use Rattle.xk_kernel.specs.State.{machine_of}

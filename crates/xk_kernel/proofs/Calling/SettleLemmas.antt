@@ -16,7 +16,7 @@ use Rattle.xk_base.proofs.CircleLemmas.{id_at-place_of, place_of-bound, place_of
 use Rattle.xk_base.specs.Tables.Circle.{id_at, is_thread_id, listed_ids, place_of, same_thread, thread_ids}
 use Rattle.xk_base.specs.Tables.Counting.{listed_below}
 use Rattle.xk_base.specs.Log.{LogState}
-use Rattle.xk_base.specs.Calls.Replies.{refused_words}
+use Rattle.syscall_codec.specs.ReplyWords.{refused_words}
 use Rattle.xk_base.specs.declared.errors.XousError.{XousError}
 use Rattle.xk_base.specs.declared.ids.ThreadId.{ThreadId}
 use Rattle.xk_base.specs.declared.records.What.{What}

@@ -6,7 +6,7 @@ use Rattle.std.proofs.lemmas.Bool.{and_left, eq-eqb, eqb-true, false≢true, le-
 use Rattle.std.proofs.lemmas.Bool.Decides.{nat_tests}
 use Rattle.std.specs.Option.{option_map}
 use Rattle.std.proofs.lemmas.Option.{same_Some}
-use Rattle.xk_base.specs.Calls.Replies.{scalar1_words}
+use Rattle.syscall_codec.specs.ReplyWords.{scalar1_words}
 use Rattle.xk_base.specs.Tables.Circle.{is_thread_id, same_thread}
 use Rattle.xk_base.specs.Tables.Counting.{put_at}
 use Rattle.xk_base.specs.declared.ids.Pid.{Pid}

@@ -10,8 +10,8 @@ use Rattle.xk_base.specs.declared.ids.Vpn.{Vpn}
 use Rattle.xk_base.specs.declared.limits.TheConstants.{PAGE_SIZE, CONSOLE_ADDRESS}
 use Rattle.xk_base.specs.declared.pages.Right.{Right}
 use Rattle.xk_base.specs.declared.windows.Window.TheVariants.{Map}
-use Rattle.xk_base.specs.Calls.Flags.{flag_execute, has_flag, right_of}
-use Rattle.xk_base.specs.Calls.Replies.{range_words}
+use Rattle.syscall_codec.specs.Flags.{flag_execute, has_flag, right_of}
+use Rattle.syscall_codec.specs.ReplyWords.{range_words}
 use Rattle.ledger_model.specs.Ledger.{Ledger, pages}
 use Rattle.ledger_model.specs.LeastRun.{least_run}
 use Rattle.ledger_model.specs.Loans.{bare}

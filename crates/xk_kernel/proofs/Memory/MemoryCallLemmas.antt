@@ -10,7 +10,7 @@ use Rattle.xk_base.specs.declared.errors.XousError.{XousError}
 use Rattle.xk_base.specs.declared.errors.XousError.TheVariants.{BadAlignment, BadAddress, ShareViolation, AccessDenied, InvalidSyscall}
 use Rattle.xk_base.specs.declared.limits.TheConstants.{PAGE_SIZE}
 use Rattle.xk_base.specs.declared.pages.Right.{Right}
-use Rattle.xk_base.specs.Calls.Flags.{right_of}
+use Rattle.syscall_codec.specs.Flags.{right_of}
 use Rattle.boot_plan.specs.Capacity.{capacity}
 use Rattle.ledger_model.specs.Ledger.{Ledger}
 use Rattle.ledger_model.specs.Loans.{loans}

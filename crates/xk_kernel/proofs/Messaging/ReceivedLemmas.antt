@@ -15,7 +15,7 @@ use Rattle.xk_parts.specs.Sound.{AreLoansSound, AreSeatsSound, AreSound}
 use Rattle.server_table.specs.ServersOf.{servers_of}
 use Rattle.thread_table.specs.Shown.{process_count}
 use Rattle.vm_memory.specs.Memory.{ledger}
-use Rattle.xk_base.specs.Calls.Replies.{plain_words}
+use Rattle.syscall_codec.specs.ReplyWords.{plain_words}
 use Rattle.xk_base.specs.declared.errors.XousError.{XousError}
 use Rattle.xk_base.specs.declared.ids.Sid.{Sid}
 use Rattle.xk_base.specs.declared.messages.Message.{Message}

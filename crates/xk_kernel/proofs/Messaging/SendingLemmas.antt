@@ -6,8 +6,8 @@ use Rattle.machine_model.specs.State.Changes.{Refused, Retried}
 use Rattle.machine_model.specs.State.Machine.{Machine}
 use Rattle.xk_base.specs.declared.ids.Number.{Number}
 use Rattle.send_path.specs.Sending.{send_row}
-use Rattle.xk_base.specs.Calls.CallNumbers.{connect, join_thread, receive_message, send_message, try_send_message}
-use Rattle.xk_base.specs.Calls.CallWords.{call_number, is_refused_to_handler, send_kind}
+use Rattle.syscall_codec.specs.CallNumbers.{connect, join_thread, receive_message, send_message, try_send_message}
+use Rattle.syscall_codec.specs.CallWords.{call_number, is_refused_to_handler, send_kind}
 use Rattle.xk_base.specs.Calls.Kinds.{is_waiting_kind}
 use Rattle.xk_base.specs.declared.errors.XousError.TheVariants.{ServerQueueFull}
 use Rattle.xk_kernel.specs.Calling.{is_refused_caller}

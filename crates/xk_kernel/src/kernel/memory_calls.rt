@@ -10,7 +10,7 @@ ghost use Rattle.vm_memory.specs.Bytes.{none_out};
 ghost use Rattle.vm_memory.specs.Memory.{has_failed, store_of};
 ghost use Rattle.xk_base.specs.Numbers.Windows.{page_of};
 ghost use Rattle.xk_base.specs.Outside.{Rose};
-ghost use Rattle.xk_base.specs.Calls.Flags.{right_of};
+ghost use Rattle.syscall_codec.specs.Flags.{right_of};
 ghost use Rattle.xk_kernel.specs.Calling.{CrowdsBy, IfUndone, ServesAs, outcome_of};
 ghost use Rattle.xk_kernel.specs.Knowing.{KnowsBytes, PutsNoneOut};
 ghost use Rattle.xk_kernel.specs.Sound.{IsUsable, IsWhole, Keeps};

@@ -4,9 +4,9 @@
 ghost use Rattle.std.specs.Prelude.{◌≡◌, ◌+◌, ◌≤◌, ◌==◌, ◌&&◌, ◌||◌, length, true, false, if◌then◌else◌};
 ghost use Rattle.machine_model.specs.State.Changes.{call_settled};
 ghost use Rattle.send_path.specs.Rows.{receive_row, table_row};
-ghost use Rattle.xk_base.specs.Calls.CallNumbers.{forward_message as forward_number, return_memory, return_scalar1, return_scalar2};
-ghost use Rattle.xk_base.specs.Calls.CallNumbers.{send_message as send_number, try_send_message as try_number};
-ghost use Rattle.xk_base.specs.Calls.CallWords.{call_number};
+ghost use Rattle.syscall_codec.specs.CallNumbers.{forward_message as forward_number, return_memory, return_scalar1, return_scalar2};
+ghost use Rattle.syscall_codec.specs.CallNumbers.{send_message as send_number, try_send_message as try_number};
+ghost use Rattle.syscall_codec.specs.CallWords.{call_number};
 ghost use Rattle.xk_kernel.specs.Calling.{IsCaller, is_refused_caller};
 ghost use Rattle.xk_kernel.specs.Knowing.{PutsNoneOut};
 ghost use Rattle.xk_kernel.specs.Sound.{IsUsable, IsWhole, Keeps};

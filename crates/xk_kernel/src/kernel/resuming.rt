@@ -2,7 +2,7 @@
 
 ghost use Rattle.std.specs.Prelude.{◌≡◌, ◌<◌, ◌≤◌, true, [], IfErr, IfOk};
 ghost use Rattle.resume_path.specs.Resumable.{CanSplit, IsResumable, resumed_page_frames, resumed_size, state_pages};
-ghost use Rattle.state_rows.specs.Machines.{machine_of as state_machine};
+ghost use Rattle.snapshot_rows.specs.Machines.{machine_of as state_machine};
 ghost use Rattle.vm_memory.specs.Bytes.{MeansBytes, none_out};
 ghost use Rattle.vm_memory.specs.Memory.{size, store_of};
 ghost use Rattle.vm_memory.specs.Tie.{IsTied};

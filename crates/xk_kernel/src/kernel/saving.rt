@@ -1,7 +1,7 @@
 //! The state of the machine is spelled: a run that goes on from these bytes is one that was never cut.
 
 ghost use Rattle.std.specs.Prelude.{◌≡◌, ◌≤◌, true, false, OnErr, OnOk};
-ghost use Rattle.machine_history.specs.Reserved.{IsReservedByThread};
+ghost use Rattle.machine_laws.specs.Reserved.{IsReservedByThread};
 ghost use Rattle.save_path.specs.Written.{IsSaved};
 ghost use Rattle.suspend_image.specs.Saveable.{IsSaveable};
 ghost use Rattle.suspend_image.specs.Sheets.{room_for, with_bytes};

@@ -1,13 +1,13 @@
 -- A run that files give is lawful, and every call has its headline.
 use Rattle.std.proofs.Common.{◌≤◌, ℕ, List, Option, None, Some, IfSome, sym, ap, ◌∙◌, subst}
 use Rattle.event_text.specs.EventFile.{input_of}
-use Rattle.machine_history.specs.HistoryMoments.{moments_of}
-use Rattle.machine_history.proofs.Histories.MomentLemmas.{history_is_run, moments_matched}
+use Rattle.machine_laws.specs.HistoryMoments.{moments_of}
+use Rattle.machine_laws.proofs.Histories.MomentLemmas.{history_is_run, moments_matched}
 use Rattle.machine_laws.proofs.Stepping.EveryStepLemmas.{every_cause_keeps}
 use Rattle.machine_model.specs.Runs.Matched.{Matched}
 use Rattle.machine_model.specs.State.Machine.{Machine}
-use Rattle.span_laws.proofs.Fates.CauseFateLemmas.{all_have_fates}
-use Rattle.span_laws.proofs.Spans.RunSpanLemmas.{spans_hold}
+use Rattle.loan_laws.proofs.Fates.CauseFateLemmas.{all_have_fates}
+use Rattle.loan_laws.proofs.Spans.RunSpanLemmas.{spans_hold}
 use Rattle.vm_memory.proofs.Changing.SoundMemoryLemmas.{sound-tied}
 use Rattle.xk_base.specs.declared.events.Event.{Event}
 use Rattle.xk_base.specs.declared.limits.TheConstants.{SLOT_LIMIT}

@@ -5,8 +5,8 @@ use Rattle.std.proofs.Math.Nat.{le-max_left, le-max_right, max-le}
 use Rattle.std.proofs.lemmas.Bool.Decides.{nat_tests}
 use Rattle.boot_plan.specs.Capacity.{page_frames}
 use Rattle.machine_model.specs.State.Machine.{Machine}
-use Rattle.state_rows.specs.declared.state.State.{State}
-use Rattle.state_rows.specs.Machines.{machine_of as machine_in}
+use Rattle.snapshot_rows.specs.declared.state.State.{State}
+use Rattle.snapshot_rows.specs.Machines.{machine_of as machine_in}
 use Rattle.sv32_space.specs.Tie.{Held}
 use Rattle.vm_memory.specs.Bytes.{MeansBytes, none_out}
 use Rattle.vm_memory.specs.Memory.{Size, size}

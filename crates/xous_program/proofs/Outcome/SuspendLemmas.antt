@@ -13,7 +13,7 @@ use Rattle.sv32_space.specs.Tie.{Held}
 use Rattle.vm_memory.specs.Memory.{Size, capacity_of, processes as processes_in, size}
 use Rattle.xk_base.specs.Outside.{Rose}
 use Rattle.xk_base.specs.declared.records.Rec.{Rec}
-use Rattle.machine_history.specs.HistoryMoments.{moments_of}
+use Rattle.machine_laws.specs.HistoryMoments.{moments_of}
 use Rattle.xk_kernel.specs.Sound.{Keeps}
 use Rattle.xk_kernel.specs.State.{machine_of}
 use Rattle.xk_kernel.specs.declared.kernel.Kernel.{Kernel}
@@ -37,7 +37,7 @@ use Rattle.event_player.specs.Rooms.{ComesFull, Room}
 use Rattle.xous_program.specs.Outcome.Starts.{Booted, KnowsPages, room_of}
 use Rattle.xous_program.specs.Outcome.Suspends.{EndsSuspend, RanUnsaved, Saves, saved_at, saved_of, silent}
 use Rattle.event_player.specs.Playing.{PlaysOut, Run, run_from}
-use Rattle.machine_history.specs.Reserved.{IsReservedByThread}
+use Rattle.machine_laws.specs.Reserved.{IsReservedByThread}
 use Rattle.host_io.specs.Reading.{Asked, IsFile, IsTold}
 use Rattle.event_player.specs.Standing.{Stand, room_in}
 use Rattle.event_player.specs.Telling.{is_silent, told}

@@ -3,7 +3,7 @@ use Rattle.std.proofs.Common.{◌≡◌, ◌==◌, ◌||◌, ◌⊎◌, ◌∙�
 use Rattle.event_text.specs.EventFile.{Input}
 use Rattle.machine_model.specs.Runs.Moments.{Moment}
 use Rattle.machine_model.specs.State.Machine.{Machine}
-use Rattle.machine_history.specs.HistoryMoments.{moments_of}
+use Rattle.machine_laws.specs.HistoryMoments.{moments_of}
 use Rattle.vm_memory.specs.Bytes.{MeansBytes, is_known, none_out}
 use Rattle.vm_memory.specs.Memory.{Size, size, store_of}
 use Rattle.xk_kernel.specs.Knowing.{is_trusted}

@@ -3,7 +3,7 @@ use Rattle.std.specs.Prelude.{◌≡◌, ◌⊎◌, ◌+◌, ℕ, Bool, true, fa
 use Rattle.event_text.specs.EventFile.{input_of}
 use Rattle.event_text.specs.Lines.{whole_lines}
 use Rattle.machine_model.specs.State.Machine.{Machine}
-use Rattle.machine_history.specs.HistoryMoments.{moments_of}
+use Rattle.machine_laws.specs.HistoryMoments.{moments_of}
 use Rattle.xk_ports.specs.declared.host.FileSlot.TheVariants.{First, Second}
 use Rattle.xk_ports.specs.Told.{Grows, GrowsByProperPrefix}
 use Rattle.event_player.specs.declared.ending.Ending.{Ending}

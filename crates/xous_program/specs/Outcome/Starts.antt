@@ -4,7 +4,7 @@ use Rattle.xk_base.specs.declared.events.Event.{Event}
 use Rattle.boot_plan.specs.Capacity.{page_frames}
 use Rattle.boot_plan.specs.declared.plans.BootPlan.{BootPlan}
 use Rattle.machine_model.specs.State.Machine.{Machine}
-use Rattle.machine_history.specs.HistoryMoments.{moments_of}
+use Rattle.machine_laws.specs.HistoryMoments.{moments_of}
 use Rattle.event_player.specs.Rooms.{ComesFull, IsFull, Room}
 use Rattle.program_status.specs.declared.status.Status.{Status}
 use Rattle.program_status.specs.declared.status.Status.TheVariants.{SwapFault, NoMemory}

@@ -4,7 +4,7 @@ ghost use Rattle.std.specs.Prelude.{◌≡◌, ◌≤◌, ◌⊎◌, [], true, f
 ghost use Rattle.xous_program.specs.declared.commands.states.TheConstants.{STATE_LIMIT};
 ghost use Rattle.xk_base.specs.declared.limits.TheConstants.{PROCESS_LIMIT, SLOT_LIMIT, STEP_LIMIT};
 ghost use Rattle.machine_model.specs.State.Machine.{Machine};
-ghost use Rattle.state_rows.specs.Machines.{machine_of as machine_in};
+ghost use Rattle.snapshot_rows.specs.Machines.{machine_of as machine_in};
 ghost use Rattle.vm_memory.specs.Memory.{size, store_of};
 ghost use Rattle.xk_base.specs.Outside.{Rose};
 ghost use Rattle.resume_path.specs.Resumable.{CanSplit};

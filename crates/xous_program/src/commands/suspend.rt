@@ -17,7 +17,7 @@ ghost use Rattle.program_status.specs.Notes.{SinkSide, sink_side};
 ghost use Rattle.xous_program.specs.Outcome.Starts.{Booted};
 ghost use Rattle.xous_program.specs.Outcome.Suspends.{EndsSuspend, silent};
 ghost use Rattle.host_io.specs.Reading.{Asked, IsTold};
-ghost use Rattle.machine_history.specs.Reserved.{IsReservedByThread};
+ghost use Rattle.machine_laws.specs.Reserved.{IsReservedByThread};
 ghost use Rattle.event_player.specs.Standing.{Begins, room_in, stand};
 ghost use Rattle.xous_program.specs.Words.{suspend_in};
 

@@ -3,7 +3,7 @@ use Rattle.xk_base.specs.declared.events.Event.TheVariants.{Tick}
 use Rattle.machine_model.specs.State.Machine.{Machine}
 use Rattle.machine_model.specs.Stepping.Events.{nothing}
 use Rattle.xk_base.specs.declared.limits.TheConstants.{DEFAULT_STEPS}
-use Rattle.machine_history.specs.History.{History, behind, history, play, reached}
+use Rattle.machine_laws.specs.History.{History, behind, history, play, reached}
 use Rattle.xk_kernel.specs.State.{machine_of}
 use Rattle.demo_load.specs.Events.{first_events, tick_at}
 use Rattle.demo_load.specs.Totals.{IsWithin, totals_of}

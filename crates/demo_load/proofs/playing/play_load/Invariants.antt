@@ -1,6 +1,6 @@
 use Rattle.std.proofs.Common.{◌≡◌, ◌≤◌, ◌*◌, false}
 use Rattle.xk_base.specs.declared.limits.TheConstants.{DEFAULT_STEPS}
-use Rattle.machine_history.specs.History.{history}
+use Rattle.machine_laws.specs.History.{history}
 use Rattle.xk_kernel.specs.Sound.{IsSound, IsUsable, Keeps}
 use Rattle.xk_kernel.specs.State.{machine_of}
 use Rattle.demo_load.specs.Events.{first_events}

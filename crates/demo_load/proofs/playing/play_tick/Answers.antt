@@ -5,15 +5,15 @@ use Rattle.machine_model.specs.State.Order.{turn}
 use Rattle.machine_model.specs.Stepping.Step.{step}
 use Rattle.xk_base.specs.declared.limits.TheConstants.{DEFAULT_STEPS}
 use Rattle.xk_base.specs.declared.records.Rec.{Rec}
-use Rattle.machine_history.specs.History.{History, behind, play}
+use Rattle.machine_laws.specs.History.{History, behind, play}
 use Rattle.xk_kernel.specs.State.{machine_of}
 use Rattle.xk_kernel.specs.Stepping.{DoesStep}
 use Rattle.xk_kernel.specs.declared.kernel.Stepped.{Stepped}
 use Rattle.xk_kernel.specs.declared.kernel.Stepped.TheVariants.{Did, Idle}
-use Rattle.machine_history.proofs.Histories.HistoryLemmas.{tick_zero, tick_idle, tick_steps}
-use Rattle.machine_history.proofs.Histories.LimitLemmas.{step_steps, turn_steps}
+use Rattle.machine_laws.proofs.Histories.HistoryLemmas.{tick_zero, tick_idle, tick_steps}
+use Rattle.machine_laws.proofs.Histories.LimitLemmas.{step_steps, turn_steps}
 use Rattle.event_player.proofs.Playing.KeptLemmas.{kept_after, kept_same}
-use Rattle.machine_history.specs.HistoryMoments.{event_moments}
+use Rattle.machine_laws.specs.HistoryMoments.{event_moments}
 use Rattle.event_player.specs.Rooms.{ComesFull}
 use Rattle.event_player.specs.Standing.{room_in}
 use Rattle.event_player.proofs.Playing.FullLemmas.{step_full, step_on_full}

@@ -2,8 +2,8 @@ use Rattle.std.proofs.Common.{◌≡◌, ◌≤◌, ◌+◌, ◌-◌, ◌++◌, 
 use Rattle.xk_base.specs.declared.events.Event.TheVariants.{Tick}
 use Rattle.xk_base.specs.declared.limits.TheConstants.{DEFAULT_STEPS}
 use Rattle.xk_base.specs.declared.records.Rec.{Rec}
-use Rattle.machine_history.specs.History.{play}
-use Rattle.machine_history.specs.HistoryMoments.{event_moments}
+use Rattle.machine_laws.specs.History.{play}
+use Rattle.machine_laws.specs.HistoryMoments.{event_moments}
 use Rattle.xk_kernel.specs.Sound.{IsSound, IsUsable, Keeps}
 use Rattle.xk_kernel.specs.State.{machine_of}
 use Rattle.demo_load.specs.Totals.{IsWithin, totals_of}

@@ -1,6 +1,6 @@
 use Rattle.std.proofs.Common.{◌≡◌, refl, arith, Ok, Err}
 use Rattle.xk_base.specs.declared.events.Event.TheVariants.{Tick}
-use Rattle.machine_history.proofs.Histories.LimitLemmas.{turn_steps}
+use Rattle.machine_laws.proofs.Histories.LimitLemmas.{turn_steps}
 use Rattle.event_player.specs.declared.ending.Ending.TheVariants.{Played, LimitMet}
 use Rattle.event_player.specs.Gathering.{text}
 use Rattle.event_player.specs.Standing.{Stand, stand}

@@ -1,7 +1,7 @@
 use Rattle.std.proofs.Common.{◌≡◌, ◌<◌, List, length, get_or, Some, None, sym, ap, subst, arith}
 use Rattle.std.specs.Prelude.{nat_eq}
 use Rattle.irq_claims.specs.ClaimsOf.{claims_of}
-use Rattle.state_rows.specs.declared.state.ClaimRow.{ClaimRow}
+use Rattle.snapshot_rows.specs.declared.state.ClaimRow.{ClaimRow}
 use Rattle.xk_base.specs.Tables.Counting.{put_at}
 use Rattle.resume_path.specs.Tables.{row_claim}
 use Rattle.resume_path.proofs.Rows.ClaimRowLemmas.{all_claimed, claims_back, next_claimed, next_number, next_pid_small, next_unclaimed, none_claimed, pending_back}

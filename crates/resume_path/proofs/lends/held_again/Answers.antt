@@ -3,9 +3,9 @@ use Rattle.std.specs.Prelude.{is_some}
 use Rattle.std.proofs.lemmas.Bool.{false≢true}
 use Rattle.ledger_model.specs.Steps.{lend}
 use Rattle.loan_flags.specs.Sending.{mem_kind}
-use Rattle.state_rows.specs.Machines.{place_at}
-use Rattle.state_rows.specs.Order.{AscendInTwo, page_key}
-use Rattle.state_rows.specs.declared.state.PageRow.{PageRow}
+use Rattle.snapshot_rows.specs.Machines.{place_at}
+use Rattle.snapshot_rows.specs.Order.{AscendInTwo, page_key}
+use Rattle.snapshot_rows.specs.declared.state.PageRow.{PageRow}
 use Rattle.suspend_image.proofs.OrderLemmas.{pages_ascend}
 use Rattle.vm_memory.specs.Loaning.Sending.{send_answer}
 use Rattle.vm_memory.specs.Memory.{ledger, processes}

@@ -2,7 +2,7 @@ use Rattle.std.proofs.Common.{◌≡◌, ℕ, ◌-◌, ◌<◌, ◌≤◌, false
 use Rattle.std.specs.Prelude.{is_some}
 use Rattle.std.proofs.lemmas.Option.{same_Some, slice_get_within}
 use Rattle.msg_queue.specs.Seats.{changed_at, seat_of, with_held_at}
-use Rattle.state_rows.specs.declared.state.MessageRow.{MessageRow}
+use Rattle.snapshot_rows.specs.declared.state.MessageRow.{MessageRow}
 use Rattle.resume_path.proofs.Lending.LentLoopLemmas.{held_there, lent_held, lent_place, lent_queued, lent_room, lent_server, lent_skipped}
 use Rattle.resume_path.proofs.Rows.MessageRowLemmas.{few_messages, server_low}
 use Rattle.resume_path.proofs.Orphaned.OrphansBackLemmas.{row_said, row_there, server_read}

@@ -2,7 +2,7 @@ use Rattle.std.proofs.Common.{◌<◌, List, ap, rules, subst, sym, ◌∙◌}
 use Rattle.std.specs.Prelude.{All}
 use Rattle.std.proofs.lemmas.List.Elements.{All-drop}
 use Rattle.std.proofs.lemmas.List.Sorted.{IsPartitionPoint-from_clause}
-use Rattle.state_rows.specs.declared.state.PageRow.{PageRow}
+use Rattle.snapshot_rows.specs.declared.state.PageRow.{PageRow}
 use Rattle.resume_path.proofs.Lending.LenderPagesLemmas.{is_below, lent_behind, pids_parted, rest_is}
 use Rattle.resume_path.specs.Messages.{first_lent}
 use Rattle.resume_path.proofs.messages.first_lent_by.Goals as goal

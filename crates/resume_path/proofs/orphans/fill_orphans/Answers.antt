@@ -1,7 +1,7 @@
 use Rattle.std.proofs.Common.{arith, ◌+◌, subst, sym, ◌∙◌}
 use Rattle.std.specs.Prelude.{slice_range}
 use Rattle.ledger_model.specs.Places.{place_after}
-use Rattle.state_rows.specs.Order.{AscendInTwo, orphan_key}
+use Rattle.snapshot_rows.specs.Order.{AscendInTwo, orphan_key}
 use Rattle.suspend_image.proofs.OrderLemmas.{orphans_ascend}
 use Rattle.resume_path.proofs.Orphaned.OrphanStepLemmas.{filled_all, filled_next, filled_none, filling_failed, filling_full, next_may, next_reached, orphan_found, orphan_read, orphan_stands, page_part, part_long}
 use Rattle.resume_path.specs.Resumable.{state_ledger}

@@ -2,7 +2,7 @@ use Rattle.std.proofs.Common.{◌≡◌, ℕ, ◌<◌, true, None, Fits, ap, ari
 use Rattle.ledger_model.specs.Loans.{LoanRun, without_lender}
 use Rattle.ledger_model.specs.Steps.{lend, orphan_loan}
 use Rattle.loan_flags.specs.Sending.{mem_kind}
-use Rattle.state_rows.specs.Machines.{place_at}
+use Rattle.snapshot_rows.specs.Machines.{place_at}
 use Rattle.vm_memory.specs.Loaning.Sending.{send_answer}
 use Rattle.vm_memory.specs.Memory.{frames_for_pages, ledger, processes}
 use Rattle.xk_base.specs.declared.ids.Place.{Place}

@@ -2,9 +2,9 @@ use Rattle.std.proofs.Common.{ℕ, ap, rules, subst}
 use Rattle.std.specs.List.Sorted.{IsBinarySearchResult}
 use Rattle.std.specs.Option.{option_map}
 use Rattle.std.proofs.lemmas.List.Sorted.{answers_always}
-use Rattle.ledger_matching.proofs.Keys.SearchLemmas.{order_of}
-use Rattle.state_rows.specs.Order.{orphan_key}
-use Rattle.state_rows.specs.declared.state.OrphanRow.{OrphanRow as Orphan}
+use Rattle.snapshot_rows.proofs.Keys.SearchLemmas.{order_of}
+use Rattle.snapshot_rows.specs.Order.{orphan_key}
+use Rattle.snapshot_rows.specs.declared.state.OrphanRow.{OrphanRow as Orphan}
 use Rattle.resume_path.proofs.Orphaned.OrphanSearchLemmas.{orphan_missed, orphan_there}
 use Rattle.resume_path.proofs.orphans.offset.Goals as goal
 

@@ -1,5 +1,5 @@
 use Rattle.std.proofs.Common.{length, ap, arith}
-use Rattle.state_rows.specs.declared.state.PageRow.{PageRow}
+use Rattle.snapshot_rows.specs.declared.state.PageRow.{PageRow}
 use Rattle.resume_path.proofs.Homes.PagesBackLemmas.{keeps_same, row_asked, row_back, row_failed, row_fits, row_full}
 use Rattle.resume_path.specs.Resumable.{state_pages}
 use Rattle.resume_path.specs.Standing.{pages_before, standing_of}

@@ -2,8 +2,8 @@ use Rattle.std.proofs.Common.{◌≡◌, ℕ, ◌+◌, List, length, get_or, Som
 use Rattle.std.specs.Prelude.{nat_eq}
 use Rattle.process_table.specs.ProcessMap.{new_processes}
 use Rattle.process_table.specs.Shown.{processes_of}
-use Rattle.state_matching.specs.ProcessParts.{are_apart, is_within_limits}
-use Rattle.state_rows.specs.declared.state.ProcRow.{ProcRow}
+use Rattle.snapshot_matching.specs.ProcessParts.{are_apart, is_within_limits}
+use Rattle.snapshot_rows.specs.declared.state.ProcRow.{ProcRow}
 use Rattle.xk_base.specs.Tables.Counting.{put_at}
 use Rattle.resume_path.specs.Tables.{row_process}
 use Rattle.resume_path.proofs.Rows.ProcessRowLemmas.{AreProcessesTo, all_processed, next_apart, next_fresh, next_is_pid, next_limits, next_processed, none_processed}

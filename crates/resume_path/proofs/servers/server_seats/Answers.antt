@@ -1,5 +1,5 @@
 use Rattle.std.proofs.Common.{◌<◌, List, length, get_or, sym, ap, subst, ◌∙◌, arith}
-use Rattle.state_rows.specs.declared.state.ServerRow.{ServerRow}
+use Rattle.snapshot_rows.specs.declared.state.ServerRow.{ServerRow}
 use Rattle.resume_path.specs.Tables.{row_seat}
 use Rattle.resume_path.proofs.Rows.ServerRowLemmas.{all_seated, next_seated, server_pid_small}
 use Rattle.resume_path.proofs.servers.server_seats.Goals as goal

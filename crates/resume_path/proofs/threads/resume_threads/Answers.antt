@@ -3,8 +3,8 @@ use Rattle.std.specs.Prelude.{if◌then◌else◌}
 use Rattle.std.specs.Option.{option_map}
 use Rattle.xk_parts.specs.Shown.{thread_of}
 use Rattle.suspend_image.specs.Forms.{IsThreadRow}
-use Rattle.state_rows.specs.Machines.{thread_at_id, thread_of as row_thread, threads_of as state_threads}
-use Rattle.state_rows.specs.declared.state.ThreadRow.{ThreadRow}
+use Rattle.snapshot_rows.specs.Machines.{thread_at_id, thread_of as row_thread, threads_of as state_threads}
+use Rattle.snapshot_rows.specs.declared.state.ThreadRow.{ThreadRow}
 use Rattle.thread_table.specs.Shown.{threads_of}
 use Rattle.xk_base.specs.Tables.Circle.{same_thread}
 use Rattle.xk_base.specs.declared.ids.ThreadId.{ThreadId}

@@ -3,7 +3,7 @@ use Rattle.xk_parts.proofs.LawfulLemmas.{sound_lawful}
 use Rattle.ledger_model.specs.Ledger.{Ledger}
 use Rattle.suspend_image.specs.Sheets.{appended}
 use Rattle.suspend_image.specs.Spelling.{page_words}
-use Rattle.state_rows.specs.declared.state.PageRow.{PageRow}
+use Rattle.snapshot_rows.specs.declared.state.PageRow.{PageRow}
 use Rattle.vm_memory.specs.Memory.{capacity_of, ledger, processes}
 use Rattle.vm_memory.specs.Using.Access.{reaches_bytes}
 use Rattle.xk_base.specs.declared.ids.Place.{Place}

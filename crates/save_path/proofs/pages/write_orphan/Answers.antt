@@ -3,7 +3,7 @@ use Rattle.xk_parts.proofs.LawfulLemmas.{sound_lawful}
 use Rattle.ledger_model.specs.Ledger.{Ledger}
 use Rattle.suspend_image.specs.Sheets.{appended}
 use Rattle.suspend_image.specs.Spelling.{orphan_words}
-use Rattle.state_rows.specs.declared.state.OrphanRow.{OrphanRow}
+use Rattle.snapshot_rows.specs.declared.state.OrphanRow.{OrphanRow}
 use Rattle.vm_memory.specs.Memory.{capacity_of, ledger, processes}
 use Rattle.save_path.specs.Rows.{orphan_at}
 use Rattle.save_path.proofs.BringsLemmas.{brings_none, brings_procs}

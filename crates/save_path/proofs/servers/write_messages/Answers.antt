@@ -1,7 +1,7 @@
 use Rattle.std.proofs.Common.{ap, ◌∙◌}
 use Rattle.suspend_image.specs.Sheets.{appended}
 use Rattle.suspend_image.specs.Spelling.{message_bytes}
-use Rattle.state_rows.specs.declared.state.MessageRow.{MessageRow}
+use Rattle.snapshot_rows.specs.declared.state.MessageRow.{MessageRow}
 use Rattle.save_path.proofs.MessageLemmas.{all_appended, all_fit, none_so_far, one_more, room_for_next}
 use Rattle.save_path.proofs.servers.write_messages.Goals as goal
 

@@ -11,7 +11,7 @@ use Rattle.boot_plan.specs.Capacity.{capacity}
 use Rattle.vm_memory.specs.Memory.{Size, ledger}
 use Rattle.server_table.specs.ServersOf.{servers_of}
 use Rattle.thread_table.specs.Shown.{process_count}
-use Rattle.xk_base.specs.Calls.Replies.{plain_words, returned_words}
+use Rattle.syscall_codec.specs.ReplyWords.{plain_words, returned_words}
 use Rattle.xk_base.specs.declared.messages.Message.{Message}
 use Rattle.xk_parts.specs.Shown.{threads_shown}
 use Rattle.send_path.proofs.Taken.{parts_of, taken}

@@ -10,7 +10,7 @@ use Rattle.vm_memory.specs.Memory.{ledger}
 use Rattle.server_table.specs.ServersOf.{servers_of}
 use Rattle.syscall_codec.specs.Replies.{words_of}
 use Rattle.thread_table.specs.Shown.{process_count}
-use Rattle.xk_base.specs.Calls.Replies.{plain_words}
+use Rattle.syscall_codec.specs.ReplyWords.{plain_words}
 use Rattle.xk_base.specs.declared.messages.Message.{Message}
 use Rattle.xk_parts.specs.Shown.{threads_shown}
 use Rattle.send_path.proofs.Taken.{parts_of, taken}

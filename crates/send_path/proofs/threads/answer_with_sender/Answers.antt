@@ -3,7 +3,7 @@ use Rattle.machine_model.specs.Messaging.ReturnCalls.{sender_gets}
 use Rattle.machine_model.specs.State.Changes.{replies}
 use Rattle.machine_model.specs.State.Threads.{answer_to, both_answers, passed}
 use Rattle.thread_table.specs.Shown.{process_count}
-use Rattle.xk_base.specs.Calls.Replies.{plain_words}
+use Rattle.syscall_codec.specs.ReplyWords.{plain_words}
 use Rattle.xk_base.specs.declared.records.What.TheVariants.{Reply}
 use Rattle.xk_parts.specs.Shown.{threads_shown}
 use Rattle.send_path.specs.Rows.{log_with}

@@ -2,9 +2,9 @@ use Rattle.std.proofs.Common.{Option, refl, sym, subst, inr}
 use Rattle.std.specs.Prelude.{MatchOption}
 use Rattle.machine_model.specs.Runs.Matched.{Matched}
 use Rattle.suspend_image.specs.declared.faults.StateError.{StateError}
-use Rattle.state_matching.specs.declared.parts.Part.{Part}
-use Rattle.state_rows.specs.Machines.{machine_of}
-use Rattle.state_matching.specs.UnmatchedParts.{IsFirstUnmatched}
+use Rattle.snapshot_matching.specs.declared.parts.Part.{Part}
+use Rattle.snapshot_rows.specs.Machines.{machine_of}
+use Rattle.snapshot_matching.specs.UnmatchedParts.{IsFirstUnmatched}
 use Rattle.suspend_image.specs.FileFaults.{IsRefused}
 use Rattle.suspend_image.proofs.FaultLemmas.{rows_in_order}
 use Rattle.suspend_image.proofs.reading.read_state.Goals as goal

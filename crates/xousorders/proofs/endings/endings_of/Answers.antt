@@ -1,8 +1,8 @@
 use Rattle.std.proofs.Common.{◌≡◌, ◌+◌, ◌∙◌, arith, length, refl, subst, sym}
-use Rattle.node_laws.specs.Searches.{IsSound}
-use Rattle.order_space.specs.declared.subject.Subject.{Subject}
-use Rattle.order_space.specs.Found.{TellsOrders, telling_of}
-use Rattle.order_space.specs.Quests.{searching_of}
+use Rattle.order_model.specs.Searches.{IsSound}
+use Rattle.order_search.specs.declared.subject.Subject.{Subject}
+use Rattle.order_search.specs.Found.{TellsOrders, telling_of}
+use Rattle.order_search.specs.Quests.{searching_of}
 use Rattle.xousorders.specs.Endings.{AreEndings}
 use Rattle.xousorders.proofs.EndingLemmas.{no_endings}
 use Rattle.xousorders.proofs.endings.endings_of.Goals as goal

@@ -1,6 +1,6 @@
 use Rattle.std.proofs.Common.{◌≡◌}
-use Rattle.order_space.specs.Found.{telling_of}
-use Rattle.order_space.specs.Quests.{searching_of}
+use Rattle.order_search.specs.Found.{telling_of}
+use Rattle.order_search.specs.Quests.{searching_of}
 use Rattle.xousorders.specs.Endings.{AreEndings}
 use Rattle.xousorders.proofs.endings.endings_of.Given as goal
 

@@ -2,9 +2,9 @@ use Rattle.std.proofs.Common.{◌≡◌, Some, arith, rules}
 use Rattle.std.specs.Prelude.{slice_get}
 use Rattle.std.proofs.lemmas.Grind.{common_steps}
 use Rattle.std.proofs.lemmas.Option.{gets}
-use Rattle.node_laws.specs.declared.moves.Note.TheVariants.{Inner}
-use Rattle.order_space.specs.Found.{telling_of}
-use Rattle.order_space.specs.Quests.{searching_of}
+use Rattle.order_model.specs.declared.moves.Note.TheVariants.{Inner}
+use Rattle.order_search.specs.Found.{telling_of}
+use Rattle.order_search.specs.Quests.{searching_of}
 use Rattle.xousorders.proofs.EndingLemmas.{node_passed}
 use Rattle.xousorders.proofs.endings.pass.Goals as goal
 

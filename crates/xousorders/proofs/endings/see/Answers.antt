@@ -1,11 +1,11 @@
 use Rattle.std.proofs.Common.{◌≡◌, ◌≤◌, ◌+◌, ◌∙◌, ap, arith, length, List, subst, sym}
-use Rattle.node_laws.specs.declared.moves.Move.{Move}
-use Rattle.node_laws.specs.Moves.{leads_by}
-use Rattle.order_space.specs.Found.{telling_of}
-use Rattle.order_space.specs.Quests.{first_node, next_node, searching_of}
-use Rattle.state_search.specs.declared.found.Edge.{Edge}
-use Rattle.state_search.specs.Graph.{node_by}
-use Rattle.state_search.specs.Paths.{IsTree, labels_to}
+use Rattle.order_model.specs.declared.moves.Move.{Move}
+use Rattle.order_model.specs.Moves.{leads_by}
+use Rattle.order_search.specs.Found.{telling_of}
+use Rattle.order_search.specs.Quests.{first_node, next_node, searching_of}
+use Rattle.graph_search.specs.declared.found.Edge.{Edge}
+use Rattle.graph_search.specs.Graph.{node_by}
+use Rattle.graph_search.specs.Paths.{IsTree, labels_to}
 use Rattle.xousorders.proofs.EndingLemmas.{node_told, shown_there}
 use Rattle.xousorders.proofs.RowLemmas.{tellable}
 use Rattle.xousorders.proofs.endings.see.Goals as goal

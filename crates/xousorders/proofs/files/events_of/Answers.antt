@@ -1,6 +1,6 @@
 use Rattle.std.proofs.Common.{◌∙◌, List, ap, arith, take_all}
-use Rattle.node_laws.specs.declared.moves.Move.{Move}
-use Rattle.node_laws.specs.Moves.{events_of}
+use Rattle.order_model.specs.declared.moves.Move.{Move}
+use Rattle.order_model.specs.Moves.{events_of}
 use Rattle.xousorders.proofs.FileLemmas.{moved}
 use Rattle.xousorders.proofs.files.events_of.Goals as goal
 

@@ -1,5 +1,5 @@
 use Rattle.std.proofs.Common.{◌≡◌, take}
-use Rattle.node_laws.specs.Moves.{Asked, events_of}
+use Rattle.order_model.specs.Moves.{Asked, events_of}
 use Rattle.xousorders.proofs.files.events_of.Given as goal
 
 abbrev pub invariant-loop-next : goal.invariant-loop-next

@@ -1,5 +1,5 @@
 use Rattle.std.proofs.Common.{◌∙◌, ◌++◌, ap}
-use Rattle.event_lines.specs.Spelling.{event_lines}
+use Rattle.event_text.specs.Spelling.{event_lines}
 use Rattle.xousorders.proofs.files.file_of.Goals as goal
 
 pub returns : goal.returns

@@ -1,5 +1,5 @@
 use Rattle.std.proofs.Common.{subst, sym}
-use Rattle.order_space.proofs.QuestLemmas.{start_matched}
+use Rattle.order_search.proofs.QuestLemmas.{start_matched}
 use Rattle.xousorders.specs.Searched.{IsSearched}
 use Rattle.xousorders.proofs.EndingLemmas.{all_moved, each_moved, sound_moved}
 use Rattle.xousorders.proofs.run.search_endings.Goals as goal

@@ -2,7 +2,7 @@ use Rattle.std.proofs.Common.{None}
 use Rattle.std.proofs.lemmas.Result.{err_from_is_err_and}
 use Rattle.suspend_image.specs.Reading.{rows_at}
 use Rattle.suspend_image.specs.Rows.{page_at}
-use Rattle.state_rows.specs.Order.{page_key}
+use Rattle.snapshot_rows.specs.Order.{page_key}
 use Rattle.suspend_image.proofs.RowLoopLemmas.{rows_go_on, rows_end, rows_done}
 use Rattle.suspend_image.proofs.reading.pages.front_pages.Goals as goal
 

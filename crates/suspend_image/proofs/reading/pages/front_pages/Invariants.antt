@@ -1,7 +1,7 @@
 use Rattle.std.proofs.Common.{◌≡◌, ◌-◌, None}
 use Rattle.suspend_image.specs.Reading.{rows_at}
 use Rattle.suspend_image.specs.Rows.{page_at}
-use Rattle.state_rows.specs.Order.{page_key}
+use Rattle.snapshot_rows.specs.Order.{page_key}
 use Rattle.suspend_image.proofs.RowLoopLemmas.{with_front}
 use Rattle.suspend_image.proofs.reading.pages.front_pages.Given as goal
 

@@ -1,7 +1,7 @@
 use Rattle.std.proofs.Common.{◌≡◌, ◌-◌, None}
 use Rattle.suspend_image.specs.Reading.{rows_at}
 use Rattle.suspend_image.specs.Rows.{server_at}
-use Rattle.state_rows.specs.Order.{server_key}
+use Rattle.snapshot_rows.specs.Order.{server_key}
 use Rattle.suspend_image.proofs.RowLoopLemmas.{with_front}
 use Rattle.suspend_image.proofs.reading.servers.front_servers.Given as goal
 

@@ -1,7 +1,7 @@
 use Rattle.std.proofs.Common.{◌≡◌, ◌-◌, None}
 use Rattle.suspend_image.specs.Reading.{rows_at}
 use Rattle.suspend_image.specs.Rows.{thread_at}
-use Rattle.state_rows.specs.Order.{thread_key}
+use Rattle.snapshot_rows.specs.Order.{thread_key}
 use Rattle.suspend_image.proofs.RowLoopLemmas.{with_front}
 use Rattle.suspend_image.proofs.reading.threads.front_threads.Given as goal
 

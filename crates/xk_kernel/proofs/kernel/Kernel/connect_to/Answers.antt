@@ -2,7 +2,7 @@
 use Rattle.std.proofs.Common.{sym, ◌∙◌}
 use Rattle.machine_model.specs.State.Changes.{Served, answering}
 use Rattle.machine_model.specs.State.Threads.{answer_to}
-use Rattle.xk_base.specs.Calls.Replies.{connection_words}
+use Rattle.syscall_codec.specs.ReplyWords.{connection_words}
 use Rattle.xk_kernel.specs.State.{machine_of}
 use Rattle.xk_kernel.proofs.Calling.ServerCallLemmas.{has_no_room, has_room_for}
 use Rattle.xk_kernel.proofs.kernel.Kernel.connect_to.Goals as goal

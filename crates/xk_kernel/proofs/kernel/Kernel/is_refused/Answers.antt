@@ -1,7 +1,7 @@
 use Rattle.std.proofs.Common.{sym, ap, ◌∙◌}
 use Rattle.std.specs.Prelude.{◌==◌, ◌&&◌}
 use Rattle.std.proofs.lemmas.Bool.{ne_eqb}
-use Rattle.xk_base.specs.Calls.CallWords.{is_refused_to_handler}
+use Rattle.syscall_codec.specs.CallWords.{is_refused_to_handler}
 use Rattle.xk_kernel.specs.State.{machine_of}
 use Rattle.xk_kernel.proofs.kernel.Kernel.is_refused.Goals as goal
 

@@ -3,7 +3,7 @@ use Rattle.std.specs.Prelude.{Err}
 use Rattle.std.proofs.lemmas.Bool.{eq-eqb, ne_eqb}
 use Rattle.ledger_model.specs.Ledger.{pages}
 use Rattle.machine_model.specs.Calling.MemoryCalls.{are_bad_flags}
-use Rattle.xk_base.specs.Calls.Flags.{right_of}
+use Rattle.syscall_codec.specs.Flags.{right_of}
 use Rattle.xk_base.specs.declared.errors.XousError.TheVariants.{BadAddress}
 use Rattle.xk_base.specs.declared.windows.Window.TheVariants.{Map}
 use Rattle.vm_memory.specs.Bytes.{none_out}

@@ -2,7 +2,7 @@
 use Rattle.std.proofs.Common.{[], ◌∷◌, refl, ◌∙◌}
 use Rattle.machine_model.specs.State.Changes.{Refused, call_settled}
 use Rattle.machine_model.specs.State.Threads.{answer_to, change_thread, give_answers, passed}
-use Rattle.xk_base.specs.Calls.Replies.{refused_words}
+use Rattle.syscall_codec.specs.ReplyWords.{refused_words}
 use Rattle.xk_base.specs.declared.records.What.TheVariants.{Reply}
 use Rattle.xk_kernel.specs.State.{machine_of}
 use Rattle.xk_kernel.specs.Telling.{log_with}

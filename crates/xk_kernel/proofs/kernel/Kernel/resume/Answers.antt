@@ -1,4 +1,4 @@
-use Rattle.state_rows.specs.Machines.{machine_of as state_machine}
+use Rattle.snapshot_rows.specs.Machines.{machine_of as state_machine}
 use Rattle.vm_memory.proofs.Changing.SoundMemoryLemmas.{sound-tied}
 use Rattle.xk_kernel.proofs.Starting.ResumedLemmas.{resumed_comes, resumed_sound}
 use Rattle.xk_kernel.proofs.kernel.Kernel.resume.Goals as goal

@@ -6,8 +6,8 @@ use Rattle.send_path.proofs.Taken.{over, parts_of}
 use Rattle.send_path.specs.Sending.{with_number}
 use Rattle.xk_parts.specs.Parts.{machine_at}
 use Rattle.send_path.specs.Rows.{table_row}
-use Rattle.xk_base.specs.Calls.CallNumbers.{send_message, try_send_message}
-use Rattle.xk_base.specs.Calls.CallWords.{call_number}
+use Rattle.syscall_codec.specs.CallNumbers.{send_message, try_send_message}
+use Rattle.syscall_codec.specs.CallWords.{call_number}
 use Rattle.xk_base.specs.declared.errors.XousError.TheVariants.{ServerQueueFull}
 use Rattle.xk_kernel.specs.State.{machine_of}
 use Rattle.xk_kernel.proofs.Acting.OrderLemmas.{ready_is}

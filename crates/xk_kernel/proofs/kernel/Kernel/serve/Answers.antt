@@ -5,7 +5,7 @@ use Rattle.machine_model.specs.State.Changes.{Served, answering}
 use Rattle.machine_model.specs.State.Threads.{answer_to}
 use Rattle.server_table.specs.ServersOf.{servers_of}
 use Rattle.syscall_codec.specs.Calls.{Asks}
-use Rattle.xk_base.specs.Calls.Replies.{plain_words}
+use Rattle.syscall_codec.specs.ReplyWords.{plain_words}
 use Rattle.xk_kernel.specs.Calling.{CrowdsBy}
 use Rattle.xk_kernel.specs.State.{machine_of}
 use Rattle.xk_kernel.proofs.Calling.CallTableLemmas.{claim_is, connect_is, create_is, create_server_is, decrease_is, free_is, increase_is, join_is, map_is, none_left, plain_asked, process_id_is, thread_id_is, try_connect_is, unmap_is, update_is, yield_is}

@@ -1,7 +1,7 @@
 use Rattle.std.proofs.Common.{sym, ◌∙◌, ◌/◌}
 use Rattle.std.specs.Prelude.{Ok, Err}
 use Rattle.machine_model.specs.Calling.MemoryCalls.{are_bad_flags}
-use Rattle.xk_base.specs.Calls.Flags.{right_of}
+use Rattle.syscall_codec.specs.Flags.{right_of}
 use Rattle.vm_memory.specs.Memory.{ledger}
 use Rattle.xk_kernel.proofs.Memory.KeptLoanLemmas.{reduce_keeps}
 use Rattle.xk_kernel.proofs.Memory.MemoryCallLemmas.{caller_process, right_told, update_outcome, whole_with_mem}

@@ -2,8 +2,8 @@ use Rattle.std.proofs.Common.{◌≡◌, ℕ, ap, ◌∙◌, subst, sym, refl, i
 use Rattle.machine_model.specs.State.Machine.{Machine}
 use Rattle.vm_memory.specs.Memory.{store_of}
 use Rattle.xk_base.specs.declared.limits.TheConstants.{DEFAULT_STEPS}
-use Rattle.machine_history.specs.History.{history}
-use Rattle.machine_history.specs.HistoryMoments.{moments_of}
+use Rattle.machine_laws.specs.History.{history}
+use Rattle.machine_laws.specs.HistoryMoments.{moments_of}
 use Rattle.demo_load.specs.Events.{load_events, load_history, load_machine}
 use Rattle.demo_load.specs.Totals.{demo_line, totals_of}
 use Rattle.xous_program.specs.Outcome.Demo.{Demonstrates}

@@ -1,6 +1,6 @@
 use Rattle.std.proofs.Common.{◌≡◌, inr, subst, sym, ℕ, true, List, None}
 use Rattle.machine_model.specs.State.Machine.{Machine}
-use Rattle.state_rows.specs.Machines.{machine_of as machine_in}
+use Rattle.snapshot_rows.specs.Machines.{machine_of as machine_in}
 use Rattle.vm_memory.specs.Memory.{size, store_of}
 use Rattle.xk_kernel.specs.State.{machine_of}
 use Rattle.event_player.specs.Gathering.{Text}

@@ -1,6 +1,6 @@
 use Rattle.std.proofs.Common.{None}
 use Rattle.machine_model.specs.State.Machine.{Machine}
-use Rattle.state_rows.specs.Machines.{machine_of as machine_in}
+use Rattle.snapshot_rows.specs.Machines.{machine_of as machine_in}
 use Rattle.xous_program.specs.Outcome.States.{room_from}
 use Rattle.xous_program.proofs.Images.StartingLemmas.{asked_on, fault_stops, rose_before}
 use Rattle.xous_program.proofs.Outcome.ResumeLemmas.{resumed_begins, resumed_room, resumed_steps}

@@ -5,7 +5,7 @@ use Rattle.suspend_image.specs.Sheets.{SheetBytes}
 use Rattle.suspend_image.specs.StateBytes.{saved_bytes}
 use Rattle.xk_kernel.specs.State.{machine_of}
 use Rattle.xk_ports.specs.Told.{Grows, GrowsByProperPrefix}
-use Rattle.machine_history.specs.Reserved.{IsReservedByThread}
+use Rattle.machine_laws.specs.Reserved.{IsReservedByThread}
 use Rattle.xous_program.proofs.commands.suspend.save_state.Goals as goal
 
 pub returns-in-Ok-put_all-clause-saved : goal.returns-in-Ok-put_all-clause-saved

@@ -1,5 +1,0 @@
-use Rattle.call_laws.proofs.Files.OnceLemmas.{said_once}
-use Rattle.call_laws.proofs.saying.files_say_one_thing.Goals as goal
-
-pub returns : goal.returns
-returns c = said_once

@@ -1,6 +1,0 @@
--- Calls on setups of one capacity end alike.
-use Rattle.call_laws.proofs.Splitting.SplitCallLemmas.{calls_end_alike}
-use Rattle.call_laws.proofs.splits.split_calls_end_alike.Goals as goal
-
-pub returns : goal.returns
-returns c = calls_end_alike

@@ -1,6 +1,0 @@
-pub mod ExchangedCalls
-pub mod Known
-pub mod Resumed
-pub mod SplitCalls
-pub mod Splits
-pub mod SuspendedCalls

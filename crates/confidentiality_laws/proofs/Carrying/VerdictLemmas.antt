@@ -1,0 +1,246 @@
+-- The verdict on a call is the same where pages hold other bytes.
+use Rattle.std.proofs.Common.{◌≡◌, ℕ, Bool, true, List, [], ◌∷◌, ◌++◌, ◌*◌, Option, Some, None, is_none, refl, sym, ap, ◌∙◌}
+use Rattle.std.specs.Option.{option_and_then, option_map_or}
+use Rattle.std.specs.Prelude.{◌+◌, ◌-◌, ◌/◌, ◌==◌, ◌&&◌, ◌||◌, if◌then◌else◌, nat_lt, not, unwrap_or}
+use Rattle.xk_base.specs.declared.errors.XousError.{XousError}
+use Rattle.xk_base.specs.declared.errors.XousError.TheVariants.{AccessDenied, BadAddress, BadAlignment, InvalidLimit, InvalidSyscall, MemoryInUse, OutOfMemory, ServerNotFound, ServerQueueFull, ShareViolation}
+use Rattle.xk_base.specs.declared.ids.Number.{Number}
+use Rattle.xk_base.specs.declared.ids.Place.{Place}
+use Rattle.xk_base.specs.declared.ids.Serial.{Serial}
+use Rattle.xk_base.specs.declared.ids.Vpn.{Vpn}
+use Rattle.xk_base.specs.declared.limits.TheConstants.{CONSOLE_ADDRESS, PAGE_SIZE}
+use Rattle.xk_base.specs.declared.messages.Message.{Message}
+use Rattle.xk_base.specs.declared.windows.Window.TheVariants.{Map, Message as MessageWindow}
+use Rattle.syscall_codec.specs.CallWords.{call_number, forward_cid, heap_bytes, map_flags, map_phys, map_size, map_virt, range_address}
+use Rattle.syscall_codec.specs.CallWords.{range_flags, range_size, send_address, send_cid, send_length}
+use Rattle.syscall_codec.specs.Flags.{flag_execute, has_flag, right_of}
+use Rattle.syscall_codec.specs.ReplyWords.{plain_words, range_words}
+use Rattle.ledger_model.specs.LeastRun.{least_run}
+use Rattle.ledger_model.specs.RunTests.{fits_window}
+use Rattle.machine_model.specs.Calling.Calls.{any_refusals}
+use Rattle.machine_model.specs.Calling.MemoryCalls.{are_bad_flags, are_too_many, caller_place, heap_limit, heap_of, heap_start, is_aligned, is_bad_range, map_address}
+use Rattle.machine_model.specs.Calling.ServerCalls.{named_server, named_sid, own_server_refusals}
+use Rattle.machine_model.specs.Calling.ThreadCalls.{free_tid}
+use Rattle.machine_model.specs.Ending.Closing.{any_server}
+use Rattle.machine_model.specs.Messaging.ForwardCalls.{forward_refusals, next_arrival, next_arrival_refusals, passable, passed_number}
+use Rattle.machine_model.specs.Messaging.ReceiveCalls.{oldest_queued}
+use Rattle.machine_model.specs.Messaging.Receivers.{receiver}
+use Rattle.machine_model.specs.Messaging.ReturnCalls.{holder_of}
+use Rattle.machine_model.specs.Messaging.SendCalls.{arrival, arrival_refusals, is_full_for, named_kind, send_refusals, sends_lend_mut, sends_pages, sent_pages}
+use Rattle.machine_model.specs.State.Machine.{Machine, Receiving}
+use Rattle.machine_model.specs.State.Servers.{live_servers, server_at, with_sid}
+use Rattle.call_effects.specs.Deciding.{decide, rows}
+use Rattle.call_effects.specs.Effects.{Maps, Pages, Waits}
+use Rattle.call_effects.specs.Rows.MemoryRows.{decrease_row, increase_row, map_row, unmap_row, update_row}
+use Rattle.call_effects.specs.Rows.MessageRows.{forward_row, passed_if, receive_row, send_row, sent_row, sent_to_row, taken_or, try_receive_row, try_send_row}
+use Rattle.call_effects.specs.Verdicts.{RefusedIf, RetriedIf, Row, Verdict, answers_caller, answers_nobody}
+use Rattle.call_effects.proofs.RowLemmas.{OfRows, ◌also◌, of_row}
+use Rattle.confidentiality_laws.proofs.Ledgers.BareTestLemmas.{any_free_alike, any_lacks_alike, any_not_sent_alike, any_on_loan_alike}
+use Rattle.confidentiality_laws.proofs.Ledgers.BareTestLemmas.{console_mapped_alike, least_run_alike, pages_alike, used_alike}
+use Rattle.confidentiality_laws.proofs.Ledgers.OtherBytesLemmas.{machine_through, through}
+
+-- the same refusals, and then what follows
+refused_alike : {refusals others : List (Bool × XousError)} {verdict : Verdict} → refusals ≡ others
+    → RefusedIf refusals verdict ≡ RefusedIf others verdict
+refused_alike {verdict = verdict} same = ap (λ x. RefusedIf x verdict) same
+
+module _ (g : List ℕ → List ℕ) where
+  -- the verdict of the row doesn't depend on bytes
+  abbrev IsAlike : Row → Type 0
+  IsAlike row = (m : Machine) (w : List ℕ) → row m w ≡ row (machine_through g m) w
+
+  -- ---- memory
+
+  unmap_alike : IsAlike unmap_row
+  unmap_alike m w =
+      refused_alike (sym (λ i.
+      (is_bad_range (range_address w) (range_size w), BadAlignment)
+      ∷ (any_free_alike g m.processes m.ledger first n i, BadAddress)
+      ∷ (any_on_loan_alike g m.processes m.ledger first n i, ShareViolation)
+      ∷ []))
+    where
+      first : Place
+      first = caller_place m (range_address w)
+
+      n : ℕ
+      n = range_size w / PAGE_SIZE
+
+  update_alike : IsAlike update_row
+  update_alike m w =
+      refused_alike (sym (λ i.
+      (is_bad_range (range_address w) (range_size w), BadAlignment)
+      ∷ (are_bad_flags (range_flags w), InvalidSyscall)
+      ∷ (any_free_alike g m.processes m.ledger first n i, BadAddress)
+      ∷ (any_on_loan_alike g m.processes m.ledger first n i, ShareViolation)
+      ∷ (any_lacks_alike g (right_of (range_flags w)) m.ledger first n i, AccessDenied)
+      ∷ []))
+    where
+      first : Place
+      first = caller_place m (range_address w)
+
+      n : ℕ
+      n = range_size w / PAGE_SIZE
+
+  decrease_alike : IsAlike decrease_row
+  decrease_alike m w =
+      let first = caller_place m (heap_start + (heap_of m - heap_bytes w)) in
+      refused_alike (sym (λ i.
+      (not (is_aligned (heap_bytes w)), BadAlignment)
+      ∷ (nat_lt (heap_of m) (heap_bytes w), InvalidLimit)
+      ∷ (any_on_loan_alike g m.processes m.ledger first (heap_bytes w / PAGE_SIZE) i, ShareViolation)
+      ∷ []))
+
+  too_many_alike : (m : Machine) (n : ℕ) → are_too_many (machine_through g m) n ≡ are_too_many m n
+  too_many_alike m n = ap (λ p. nat_lt m.capacity (p + n)) (pages_alike g m.processes m.ledger)
+
+  increase_alike : IsAlike increase_row
+  increase_alike m w =
+      refused_alike (sym (λ i.
+      (not (is_aligned (heap_bytes w)), BadAlignment)
+      ∷ (nat_lt heap_limit (heap_of m + heap_bytes w), InvalidLimit)
+      ∷ (too_many_alike m (heap_bytes w / PAGE_SIZE) i, OutOfMemory)
+      ∷ []))
+
+  map_alike : IsAlike map_row
+  map_alike m w = sym (λ i.
+      RefusedIf
+      ((is_bad_range (map_virt w) (map_size w), BadAlignment)
+      ∷ (are_bad_flags (map_flags w), InvalidSyscall)
+      ∷ (not (map_phys w == 0) && not console, BadAddress)
+      ∷ (console && (not (map_size w == PAGE_SIZE) || has_flag (map_flags w) flag_execute), BadAddress)
+      ∷ (console && console_mapped_alike g m.processes m.ledger i, MemoryInUse)
+      ∷ (not (map_virt w == 0) && not (fits_window Map (map_virt w / PAGE_SIZE) n), BadAddress)
+      ∷ (not (map_virt w == 0) && used_alike g m.processes m.ledger (caller_place m (map_virt w)) n i, MemoryInUse)
+      ∷ (map_virt w == 0 && is_none (found i), MemoryInUse)
+      ∷ (not console && too_many_alike m n i, OutOfMemory)
+      ∷ [])
+      (answers_caller m (range_words (address i) (map_size w)) (Pages (Maps console (caller_place m (address i)) n (right_of (map_flags w))) ∷ [])))
+    where
+      n : ℕ
+      n = map_size w / PAGE_SIZE
+
+      console : Bool
+      console = map_phys w == CONSOLE_ADDRESS
+
+      found : least_run m.processes (through g m.ledger) m.cursor.pid Map n ≡ least_run m.processes m.ledger m.cursor.pid Map n
+      found = least_run_alike g m.processes m.ledger m.cursor.pid Map n
+
+      address : map_address (machine_through g m) (map_virt w) (map_size w) ≡ map_address m (map_virt w) (map_size w)
+      address = λ i. if map_virt w == 0 then PAGE_SIZE * (unwrap_or (found i) (record { 0 = 0 })).0 else map_virt w
+
+  -- ---- messages
+
+  send_refusals_alike : (m : Machine) (w : List ℕ) → send_refusals m w ≡ send_refusals (machine_through g m) w
+  send_refusals_alike m w = sym (λ i.
+      (is_none (server_at m (send_cid w)), ServerNotFound)
+      ∷ (is_none (named_kind w), InvalidSyscall)
+      ∷ (sends_pages w && is_bad_range (send_address w) (send_length w), BadAlignment)
+      ∷ (sends_pages w && any_free_alike g m.processes m.ledger (caller_place m (send_address w)) (sent_pages w) i, BadAddress)
+      ∷ (sends_pages w && any_not_sent_alike g m.processes m.ledger (caller_place m (send_address w)) (sent_pages w) (sends_lend_mut w) i, ShareViolation)
+      ∷ [])
+
+  arrival_alike : (m : Machine) (w : List ℕ) → arrival m w ≡ arrival (machine_through g m) w
+  unfolding arrival
+  arrival_alike m w =
+      sym (λ i. option_and_then (λ server. least_run_alike g m.processes m.ledger server.pid MessageWindow (sent_pages w) i) (server_at m (send_cid w)))
+
+  sent_to_alike : IsAlike sent_to_row
+  unfolding receiver
+  sent_to_alike m w =
+      ap (λ first. RefusedIf (arrival_refusals w first) (sent_row (unwrap_or first (record { 0 = 0 })) m w)) (arrival_alike m w)
+
+  send_alike : IsAlike send_row
+  send_alike m w = λ i. RefusedIf (send_refusals_alike m w i) (RetriedIf (is_full_for m w) (sent_to_alike m w i))
+
+  try_send_alike : IsAlike try_send_row
+  try_send_alike m w = λ i. RefusedIf (send_refusals_alike m w i ++ (is_full_for m w, ServerQueueFull) ∷ []) (sent_to_alike m w i)
+
+  next_arrival_alike : (m : Machine) (number : Number) (cid : ℕ) → next_arrival m number cid ≡ next_arrival (machine_through g m) number cid
+  unfolding next_arrival holder_of
+  next_arrival_alike m number cid =
+      sym (λ i. option_and_then
+      (λ server. least_run_alike g m.processes m.ledger server.pid MessageWindow (option_map_or (λ message. message.count) (passable m number) 0) i)
+      (server_at m cid))
+
+  passed_alike : (m : Machine) (number : Number) (cid : ℕ) (first : Vpn) (o : Option Message)
+      → passed_if m number cid first o ≡ passed_if (machine_through g m) number cid first o
+  unfolding holder_of receiver
+  passed_alike m number cid first None = refl
+  passed_alike m number cid first (Some message) = refl
+
+  forward_alike : IsAlike forward_row
+  unfolding holder_of
+  forward_alike m w = λ i.
+      RefusedIf (forward_refusals m number cid)
+      (RefusedIf (next_arrival_refusals (next_arrival_alike m number cid i)) (passed i))
+    where
+      number : Number
+      number = passed_number w
+
+      cid : ℕ
+      cid = forward_cid w
+
+      passed : passed_if m number cid (unwrap_or (next_arrival m number cid) (record { 0 = 0 })) (passable m number)
+          ≡ passed_if (machine_through g m) number cid (unwrap_or (next_arrival (machine_through g m) number cid) (record { 0 = 0 }))
+          (passable m number)
+      passed =
+          ap (λ first. passed_if m number cid (unwrap_or first (record { 0 = 0 })) (passable m number)) (next_arrival_alike m number cid)
+          ∙ passed_alike m number cid (unwrap_or (next_arrival (machine_through g m) number cid) (record { 0 = 0 })) (passable m number)
+
+  taken_alike : (m : Machine) (serial : Serial) (o : Option Message) (verdict : Verdict)
+      → taken_or m serial o verdict ≡ taken_or (machine_through g m) serial o verdict
+  taken_alike m serial None verdict = refl
+  taken_alike m serial (Some message) verdict = refl
+
+  receive_alike : IsAlike receive_row
+  unfolding with_sid
+  receive_alike m w =
+      let serial = named_server m (named_sid w) in
+      ap (RefusedIf (own_server_refusals m (named_sid w)))
+      (taken_alike m serial (oldest_queued m serial) (answers_nobody (Waits m.cursor (Receiving serial) ∷ [])))
+
+  try_receive_alike : IsAlike try_receive_row
+  unfolding with_sid
+  try_receive_alike m w =
+      let serial = named_server m (named_sid w) in
+      ap (RefusedIf (own_server_refusals m (named_sid w)))
+      (taken_alike m serial (oldest_queued m serial) (answers_caller m plain_words []))
+
+-- ---- the table
+
+module _ (g : List ℕ → List ℕ) where
+  table_alike : OfRows (λ number. true) (λ number row. IsAlike g row) rows
+  unfolding any_server free_tid holder_of live_servers with_sid
+  table_alike =
+      map_alike g
+      also (λ m w. refl)
+      also (λ m w. refl)
+      also (λ m w. refl)
+      also increase_alike g
+      also decrease_alike g
+      also update_alike g
+      also (λ m w. refl)
+      also receive_alike g
+      also send_alike g
+      also (λ m w. refl)
+      also (λ m w. refl)
+      also unmap_alike g
+      also (λ m w. refl)
+      also (λ m w. refl)
+      also try_send_alike g
+      also (λ m w. refl)
+      also (λ m w. refl)
+      also (λ m w. refl)
+      also try_receive_alike g
+      also (λ m w. refl)
+      also (λ m w. refl)
+      also (λ m w. refl)
+      also (λ m w. refl)
+      also forward_alike g
+      also tt
+
+  pub decide_alike : (m : Machine) (w : List ℕ) → decide m w ≡ decide (machine_through g m) w
+  unfolding decide
+  decide_alike m w =
+      ap (RefusedIf (any_refusals m w))
+      (of_row (λ number. true) (λ number row. IsAlike g row) (call_number w) refl (λ m w. refl) rows table_alike m w)

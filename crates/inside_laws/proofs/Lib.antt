@@ -1,4 +1,0 @@
-pub mod Running
-pub mod Seeing
-pub mod Stepping
-pub mod Veiling

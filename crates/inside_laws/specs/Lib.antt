@@ -1,4 +1,0 @@
-pub mod Acting
-pub mod Handing
-pub mod Inside
-pub mod TwoInsides

@@ -1,3 +1,0 @@
-pub mod InstructionLemmas
-pub mod PendingLemmas
-pub mod ReachedPageLemmas

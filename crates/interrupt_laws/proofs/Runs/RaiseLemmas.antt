@@ -1,0 +1,166 @@
+-- The timer's raise in a step: what it is, and that there is none in any other moment.
+use Rattle.std.proofs.Common.{◌≡◌, ℕ, ◌+◌, ◌⊎◌, Bool, true, false, Option, Some, None, refl, sym, ap, ◌∙◌, inl, inr}
+use Rattle.std.specs.Prelude.{is_some, nat_eq, if◌then◌else◌}
+use Rattle.std.specs.Option.{option_map_or}
+use Rattle.std.proofs.lemmas.Bool.{eqb-true, eq-eqb, false≢true}
+use Rattle.xk_base.specs.declared.ids.Pid.{Pid}
+use Rattle.xk_base.specs.declared.ids.ThreadId.{ThreadId}
+use Rattle.xk_base.specs.declared.limits.TheConstants.{TIMER_INTERRUPT}
+use Rattle.xk_base.specs.Tables.Counting.{put_at}
+use Rattle.machine_model.specs.Runs.Moments.{Cause, ByStep, ByPick, ByIrq, ByKill, ByTurn, caused}
+use Rattle.machine_model.specs.State.Changes.{Told, only, settled}
+use Rattle.machine_model.specs.State.Machine.{Claim, Machine, Reservation}
+use Rattle.machine_model.specs.State.Order.{actor}
+use Rattle.machine_model.specs.Stepping.Events.{raised, raised_if}
+use Rattle.machine_model.specs.Stepping.Interrupts.{delivered, delivered_lowest, handler_started, is_free_for_interrupt, lowest_pending, with_handler_next}
+use Rattle.machine_model.specs.Stepping.Reservations.{unreserved}
+use Rattle.machine_model.specs.Stepping.Step.{acted_if_there, counted, step}
+use Rattle.machine_model.specs.Stepping.Timer.{is_due, raised_by_timer, timed, timed_if}
+use Rattle.machine_model.proofs.StepLemmas.{no_step}
+use Rattle.machine_model.proofs.Runs.TimerLemmas.{due_disarms, not_due, timed_raised}
+use Rattle.machine_laws.proofs.Interrupting.IrqDeliveryLemmas.{settled_unanswered}
+use Rattle.machine_laws.proofs.Threading.ThreadStepLemmas.{step_of_actor, turned_to}
+use Rattle.interrupt_laws.specs.Raising.{ElseNothing, IsRaise, RaiseIsEvent, other_effects, other_effects_of}
+use Rattle.interrupt_laws.proofs.Runs.MomentLemmas.{effects_of, is_step, no_actor}
+
+due_value : (o : Option ℕ) (n : ℕ) → is_due o n ≡ true → o ≡ Some n
+due_value None n e = absurd (false≢true e)
+due_value (Some c) n e = ap Some (eqb-true c n e)
+
+value_due : (o : Option ℕ) (n : ℕ) → o ≡ Some n → is_due o n ≡ true
+value_due o n e = ap (λ x. is_due x n) e ∙ eq-eqb n n refl
+
+-- ---- the raise is as by an event
+
+module _ (d : Machine) (pending : ℕ → Bool) (pid : Pid) where
+  abbrev pend : Machine → Machine
+  pend m = record m { pending = pending }
+
+  abbrev reserved_as : Option Reservation → Machine → Machine
+  reserved_as reserved m = record m { reserved = reserved }
+
+  started_alike : (k : ℕ) (o : Option Claim)
+      → (settled (with_handler_next (handler_started (pend d) pid k o))).machine
+      ≡ reserved_as d.reserved (settled (with_handler_next (handler_started (pend (unreserved d)) pid k o))).machine
+  unfolding settled
+  started_alike k None = refl
+  started_alike k (Some claim) = refl
+
+  lowest_alike : (o : Option ℕ)
+      → (settled (with_handler_next (delivered_lowest (pend d) pid o))).machine
+      ≡ reserved_as d.reserved (settled (with_handler_next (delivered_lowest (pend (unreserved d)) pid o))).machine
+  unfolding settled
+  lowest_alike None = refl
+  lowest_alike (Some k) = started_alike k (d.claims k)
+
+  delivered_alike : (settled (with_handler_next (delivered pid (pend d)))).machine
+      ≡ reserved_as d.reserved (settled (with_handler_next (delivered pid (pend (unreserved d))))).machine
+  unfolding delivered lowest_pending
+  delivered_alike = lowest_alike (if is_free_for_interrupt (pend d) pid then lowest_pending (pend d) pid else None)
+
+raise_alike : (d : Machine) (o : Option Claim)
+    → (settled (raised_by_timer o d)).machine ≡ record (raised_if TIMER_INTERRUPT o (unreserved d)).machine { reserved = d.reserved }
+raise_alike d None = settled_unanswered (only d) refl
+raise_alike d (Some claim) = delivered_alike d (put_at nat_eq d.pending TIMER_INTERRUPT true) claim.pid
+
+-- ---- a step of a thread
+
+module _ (m : Machine) (who : ThreadId) (acts : actor m ≡ Some who) where
+  abbrev done : Told
+  done = counted (turned_to who m) (m.threads who) (acted_if_there (turned_to who m) (m.threads who))
+
+  step_is : (step m).machine ≡ (timed done).machine
+  step_is = step_of_actor m who acts
+
+  effects_are : other_effects m ≡ done.machine
+  unfolding other_effects
+  effects_are = ap (λ o. option_map_or (other_effects_of m) o m) acts
+
+  raise_of : is_due done.machine.compare done.machine.steps ≡ true → IsRaise m ByStep
+  raise_of e = record {
+    step = refl;
+    acts = ap is_some acts;
+    due = ap (λ (x : Machine). x.compare) effects_are ∙ due_value done.machine.compare (m.steps + 1) e;
+  }
+
+  due_of : IsRaise m ByStep → is_due done.machine.compare done.machine.steps ≡ true
+  due_of r = value_due done.machine.compare (m.steps + 1) (ap (λ (x : Machine). x.compare) (sym effects_are) ∙ r.due)
+
+-- ---- any moment
+
+-- In a raise the timer is disarmed; else the moment is what it does before the timer. The claims are as before the timer.
+pub record Decides (cause : Cause) (m : Machine) : Type 0 where
+  pub decided : (IsRaise m cause × ((caused cause m).compare ≡ None)) ⊎ (¬ IsRaise m cause × (caused cause m ≡ effects_of cause m))
+  pub claims : (caused cause m).claims ≡ (effects_of cause m).claims
+
+module _ (m : Machine) (who : ThreadId) (acts : actor m ≡ Some who) where
+  step_claims : (step m).machine.claims ≡ (other_effects m).claims
+  step_claims =
+      ap (λ (x : Machine). x.claims) (step_is m who acts ∙ (timed_raised (done m who acts)).is ∙ refl)
+      ∙ ap (λ (x : Machine). x.claims) (sym (effects_are m who acts))
+
+  by_thread : (b : Bool) → is_due (done m who acts).machine.compare (done m who acts).machine.steps ≡ b → Decides ByStep m
+  by_thread true e = record {
+    decided = inl (raise_of m who acts e, ap (λ (x : Machine). x.compare) (step_is m who acts) ∙ due_disarms (done m who acts) e);
+    claims = step_claims;
+  }
+  by_thread false e = record {
+    decided = inr (
+      λ r. false≢true (sym e ∙ due_of m who acts r),
+      step_is m who acts ∙ ap (λ (t : Told). t.machine) (not_due (done m who acts) e) ∙ sym (effects_are m who acts),
+    );
+    claims = step_claims;
+  }
+
+step_decides : (m : Machine) (o : Option ThreadId) → actor m ≡ o → Decides ByStep m
+step_decides m None e =
+    let idle : (step m).machine ≡ other_effects m = ap (λ s. s.machine) (no_step m e) ∙ sym (no_actor m e).1 in
+    record {
+      decided = inr (λ r. false≢true (ap is_some (sym e) ∙ r.acts), idle);
+      claims = ap (λ (x : Machine). x.claims) idle;
+    }
+step_decides m (Some who) e = by_thread m who e (is_due (done m who e).machine.compare (done m who e).machine.steps) refl
+
+event_decides : (cause : Cause) (m : Machine) → is_step cause ≡ false → caused cause m ≡ effects_of cause m → Decides cause m
+event_decides cause m other e =
+    record { decided = inr (λ r. false≢true (sym other ∙ ap is_step r.step), e); claims = ap (λ (x : Machine). x.claims) e }
+
+pub decides : (cause : Cause) (m : Machine) → Decides cause m
+decides ByStep m = step_decides m (actor m) refl
+decides (ByPick who) m = event_decides (ByPick who) m refl refl
+decides (ByIrq k) m = event_decides (ByIrq k) m refl refl
+decides (ByKill pid) m = event_decides (ByKill pid) m refl refl
+decides ByTurn m = event_decides ByTurn m refl refl
+
+-- ---- the laws of one step
+
+pub else_nothing : ElseNothing
+else_nothing m none = go (decides ByStep m).decided
+  where
+    go : (IsRaise m ByStep × ((step m).machine.compare ≡ None)) ⊎ (¬ IsRaise m ByStep × ((step m).machine ≡ other_effects m))
+        → (step m).machine ≡ other_effects m
+    go (inl r) = absurd (none r.0)
+    go (inr r) = r.1
+
+module _ (m : Machine) (who : ThreadId) (acts : actor m ≡ Some who) (r : IsRaise m ByStep) where
+  abbrev before : Machine
+  before = record (done m who acts).machine { compare = None }
+
+  as_event : (step m).machine
+      ≡ record (raised TIMER_INTERRUPT (record (other_effects m) { compare = None })).machine { reserved = (other_effects m).reserved }
+  unfolding raised
+  as_event =
+      step_is m who acts
+      ∙ ap (λ b. (timed_if b (done m who acts)).machine) (due_of m who acts r)
+      ∙ raise_alike before ((done m who acts).machine.claims TIMER_INTERRUPT)
+      ∙ ap (λ (x : Machine). record (raised TIMER_INTERRUPT (record x { compare = None })).machine { reserved = x.reserved })
+      (sym (effects_are m who acts))
+
+pub raise_is_event : RaiseIsEvent
+raise_is_event m r = go (actor m) refl
+  where
+    go : (o : Option ThreadId) → actor m ≡ o
+        → (step m).machine
+        ≡ record (raised TIMER_INTERRUPT (record (other_effects m) { compare = None })).machine { reserved = (other_effects m).reserved }
+    go None e = absurd (false≢true (ap is_some (sym e) ∙ r.acts))
+    go (Some who) e = as_event m who e r

@@ -1,4 +1,0 @@
-pub mod Balance
-pub mod Busy
-pub mod Delivering
-pub mod Starting

@@ -1,6 +1,0 @@
-use Rattle.isolation_laws.proofs.Spreading.CauseLemmas.{cause_moves}
-use Rattle.isolation_laws.proofs.differences.causes_make_no_difference.Goals as goal
-
--- src/differences.rt
-pub returns : goal.returns
-returns c = cause_moves

@@ -1,4 +1,0 @@
-pub mod Keys
-pub mod LedgerLemmas
-pub mod LoanRuns
-pub mod Pages

@@ -1,8 +1,0 @@
-use Rattle.std.proofs.Common.{◌≡◌}
-use Rattle.std.specs.Prelude.{take}
-use Rattle.std.specs.List.{flat_map}
-use Rattle.ledger_matching.specs.RunParts.{run_of}
-use Rattle.ledger_matching.proofs.runs.pages_on_loan.Given as goal
-
-abbrev pub invariant-loop-page : goal.invariant-loop-page
-invariant-loop-page l = l.runs.items ≡ flat_map run_of (take l.page-index l.pages)

@@ -1,2 +1,0 @@
-pub mod PageParts
-pub mod RunParts

@@ -1,0 +1,11 @@
+pub mod Bytes
+pub mod Causes
+pub mod Connecting
+pub mod Counts
+pub mod Deeds
+pub mod Lives
+pub mod Owners
+pub mod Planted
+pub mod Tracing
+pub mod Untouched
+pub mod Waiting

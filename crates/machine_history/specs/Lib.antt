@@ -1,4 +1,0 @@
-pub mod History
-pub mod HistoryMoments
-pub mod Interleaving
-pub mod Reserved

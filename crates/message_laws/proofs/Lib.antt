@@ -1,5 +1,0 @@
-pub mod Accepting
-pub mod AtServers
-pub mod Coming
-pub mod Following
-pub mod Serving

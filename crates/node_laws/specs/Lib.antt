@@ -1,6 +1,0 @@
-pub mod Counts
-pub mod Endings
-pub mod Moves
-pub mod Nodes
-pub mod Orders
-pub mod Searches

@@ -1,0 +1,9 @@
+pub mod Acting
+pub mod Causes
+pub mod Claimant
+pub mod Fates
+pub mod Handing
+pub mod Inside
+pub mod Integrity
+pub mod KeptOthers
+pub mod TwoInsides

@@ -1,3 +1,0 @@
-pub mod EdgeLemmas
-mod ChoiceLemmas
-pub mod MoveLemmas

@@ -1,7 +1,0 @@
-use Rattle.order_choices.proofs.ChoiceLemmas.{free_goes}
-use Rattle.state_rows.specs.Machines.{machine_of}
-use Rattle.order_choices.proofs.choices.go_on.Goals as goal
-
-pub returns-in-None : goal.returns-in-None
-returns-in-None c file =
-    free_goes c.args.orders.now.bound (machine_of file c.args.state.now) c.has_timer.result c.in-None.is (c.has_timer.ensures file)

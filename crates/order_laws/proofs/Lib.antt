@@ -1,3 +1,0 @@
-pub mod InterleavingLemmas
-pub mod OrderLemmas
-pub mod SliceLemmas

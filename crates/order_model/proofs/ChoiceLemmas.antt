@@ -1,0 +1,86 @@
+-- What may come next, as it is told.
+use Rattle.std.proofs.Common.{◌≡◌, ◌+◌, ℕ, suc, Bool, true, false, List, [], ◌∷◌, ◌++◌, Option, Some, None, is_some, refl, sym, ap, subst, ◌∙◌, append_assoc, arith}
+use Rattle.std.specs.Prelude.{◌||◌, ◌==◌, length, not, map, slice_get, if◌then◌else◌}
+use Rattle.std.specs.Option.{option_and_then}
+use Rattle.std.proofs.lemmas.Bool.{ne_eqb}
+use Rattle.std.proofs.lemmas.List.{map-append}
+use Rattle.std.proofs.lemmas.Option.{none-some}
+use Rattle.xk_base.specs.declared.events.Event.{Event}
+use Rattle.xk_base.specs.declared.limits.TheConstants.{TIMER_INTERRUPT}
+use Rattle.xk_base.specs.Tables.Counting.{listed_below}
+use Rattle.xk_base.specs.declared.ids.ThreadId.{ThreadId}
+use Rattle.machine_model.specs.State.Machine.{Machine}
+use Rattle.order_model.specs.Endings.{are_none, is_ending, ready_ids}
+use Rattle.order_model.specs.Moves.{Asked, Point, is_at_bound, what_comes}
+use Rattle.order_model.specs.Nodes.{goes_on}
+use Rattle.order_model.specs.declared.choices.Choice.{Choice}
+use Rattle.order_model.specs.declared.choices.Choice.TheVariants.{Comes}
+use Rattle.order_model.specs.Asking.{bound_of}
+use Rattle.order_model.specs.Choosing.{comes_at, turns_at}
+
+-- ---- turns
+
+pub no_turn : (asked : Asked) (m : Machine) → is_at_bound asked.bound m ≡ true → [] ≡ turns_at asked m
+no_turn asked m e = sym (ap (λ (b : Bool). if b then [] else ready_ids m) e)
+
+pub all_turns : (asked : Asked) (m : Machine) → is_at_bound asked.bound m ≡ false → ready_ids m ≡ turns_at asked m
+all_turns asked m e = sym (ap (λ (b : Bool). if b then [] else ready_ids m) e)
+
+none_or : (b : Bool) (xs : List ThreadId) → are_none (if b then [] else xs) ≡ (are_none xs || b)
+none_or true [] = refl
+none_or true (x ∷ xs) = refl
+none_or false [] = refl
+none_or false (x ∷ xs) = refl
+
+pub ending_is : (asked : Asked) (m : Machine) → are_none (turns_at asked m) ≡ is_ending asked m
+ending_is asked m = none_or (is_at_bound asked.bound m) (ready_ids m)
+
+-- ---- events
+
+module _ (asked : Asked) (p : Point) (k : ℕ) where
+  abbrev comes_in : Option Event → Bool
+  comes_in o = is_some (option_and_then (λ (event : Event). what_comes event p.state) o)
+
+  -- one that came doesn't come again
+  pub came_once : p.came k ≡ true → comes_at asked p k ≡ false
+  came_once e = ap (λ (b : Bool). comes_in (if b then None else slice_get asked.once k)) e
+
+  -- another comes where it comes by itself
+  pub comes_if : (event : Event) → slice_get asked.once k ≡ Some event → p.came k ≡ false → comes_at asked p k ≡ is_some (what_comes event p.state)
+  comes_if event is e = ap (λ (b : Bool). comes_in (if b then None else slice_get asked.once k)) e ∙ ap comes_in is
+
+-- the next number is listed where its event may come
+pub next_event : (test : ℕ → Bool) (k : ℕ) (before now more : List Choice) → now ≡ before ++ map Comes (listed_below k test)
+    → more ≡ now ++ (if test k then Comes k ∷ [] else []) → more ≡ before ++ map Comes (listed_below (k + 1) test)
+unfolding listed_below
+next_event test k before now more e is =
+    let same : suc k ≡ k + 1 = omega arith in
+    subst (λ n. more ≡ before ++ map Comes (listed_below n test)) same (go (test k) refl)
+  where
+    behind : (b : Bool) → map Comes (listed_below k test) ++ (if b then Comes k ∷ [] else []) ≡ map Comes (listed_below k test ++ (if b then k ∷ [] else []))
+    behind true = sym (map-append Comes (listed_below k test) (k ∷ []))
+    behind false = sym (map-append Comes (listed_below k test) [])
+
+    go : (b : Bool) → test k ≡ b → more ≡ before ++ map Comes (listed_below k test ++ (if test k then k ∷ [] else []))
+    go b t =
+        is
+        ∙ (ap (λ (xs : List Choice). xs ++ (if test k then Comes k ∷ [] else [])) e
+        ∙ (append_assoc before (map Comes (listed_below k test)) (if test k then Comes k ∷ [] else [])
+        ∙ ap (λ (xs : List Choice). before ++ xs) (behind (test k))))
+
+-- ---- none
+
+pub none_counted : (xs : List ThreadId) → (length xs == 0) ≡ are_none xs
+none_counted [] = refl
+none_counted (x ∷ xs) = ne_eqb (suc (length xs)) 0 (λ e. absurd (omega (arith, e)))
+
+-- ---- orders go on
+
+not_is : (b : Bool) → not b ≡ (if b then false else true)
+not_is true = refl
+not_is false = refl
+
+pub free_goes : (bound : Option ℕ) (m : Machine) (claimed : Bool) → bound ≡ None → claimed ≡ is_some (m.claims TIMER_INTERRUPT)
+    → not claimed ≡ goes_on (bound_of bound) m
+free_goes None m claimed e h = ap not h ∙ not_is (is_some (m.claims TIMER_INTERRUPT))
+free_goes (Some bound) m claimed e h = absurd (none-some bound (sym e))

@@ -1,0 +1,9 @@
+mod ChoiceLemmas
+pub mod Counting
+pub mod EdgeLemmas
+pub mod InterleavingLemmas
+pub mod MoveLemmas
+pub mod Moving
+pub mod OrderLemmas
+pub mod SliceLemmas
+mod TurnLemmas

@@ -1,0 +1,100 @@
+-- What it says that a move leads somewhere.
+use Rattle.std.proofs.Common.{◌≡◌, ◌<◌, inl, inr, ℕ, Bool, true, false, List, length, Option, Some, None, is_some, IsSome, refl, sym, ap, ◌∙◌}
+use Rattle.std.specs.Prelude.{◌&&◌, ◌==◌, not, nat_eq, set, slice_get, if◌then◌else◌}
+use Rattle.std.specs.Option.{option_and_then, option_map}
+use Rattle.std.proofs.lemmas.Bool.{and_parts, cases_eq, eq-eqb, eqb-true, false≢true, ne_eqb}
+use Rattle.std.proofs.lemmas.List.{get_or-set_other}
+use Rattle.std.proofs.lemmas.Grind.{get_or-set_at}
+use Rattle.xk_base.specs.declared.events.Event.{Event}
+use Rattle.xk_base.specs.declared.ids.ThreadId.{ThreadId}
+use Rattle.xk_base.specs.Tables.Counting.{put_at}
+use Rattle.machine_model.specs.State.Order.{ready_at}
+use Rattle.order_model.specs.Slices.{turned}
+use Rattle.order_model.specs.declared.moves.Move.TheVariants.{Once, Slice}
+use Rattle.order_model.specs.Moves.{Asked, Point, behind, is_at_bound, is_slice, leads, may_come, slice_at, what_comes, with_come}
+use Rattle.order_model.specs.Asking.{came_of}
+
+-- ---- tests
+
+pub not_true : (b : Bool) → not b ≡ true → b ≡ false
+not_true true h = absurd (false≢true h)
+not_true false h = refl
+
+pub some_if : {A : Type 0} (b : Bool) (x : A) → is_some (if b then Some x else None) ≡ true → b ≡ true
+some_if true x h = refl
+some_if false x h = absurd (false≢true h)
+
+pub some_mapped : {A B : Type 0} (f : A → B) (o : Option A) → is_some (option_map f o) ≡ true → is_some o ≡ true
+some_mapped f None h = absurd (false≢true h)
+some_mapped f (Some x) h = refl
+
+-- ---- slices
+
+-- the thread may have a slice, which has so many steps
+pub record MayGo (asked : Asked) (p : Point) (who : ThreadId) (steps : ℕ) : Type 0 where
+  pub ready : ready_at p.state who ≡ true
+  pub left : is_at_bound asked.bound p.state ≡ false
+  pub done : (slice_at asked who p.state).done ≡ steps
+
+module _ (asked : Asked) (p : Point) (who : ThreadId) (steps : ℕ) where
+  pub may_go : IsSome (leads asked p (Slice who steps)) → MayGo asked p who steps
+  unfolding leads
+  may_go h =
+      let whole = some_if (is_slice asked who steps p.state) (behind p (turned (slice_at asked who p.state))) h in
+      let front = and_parts (ready_at p.state who) (not (is_at_bound asked.bound p.state) && ((slice_at asked who p.state).done == steps)) whole in
+      let back = and_parts (not (is_at_bound asked.bound p.state)) ((slice_at asked who p.state).done == steps) front.1 in
+      record {
+        ready = front.0;
+        left = not_true (is_at_bound asked.bound p.state) back.0;
+        done = eqb-true (slice_at asked who p.state).done steps back.1;
+      }
+
+-- a slice that was played is that of the move that was to be made
+pub same_slice : (asked : Asked) (p new : Point) (who : ThreadId) (steps done : ℕ) → IsSome (leads asked p (Slice who steps))
+    → leads asked p (Slice who done) ≡ Some new → leads asked p (Slice who steps) ≡ Some new
+same_slice asked p new who steps done may is =
+    let one = may_go asked p who steps may in
+    let other = may_go asked p who done (ap is_some is) in
+    ap (λ n. leads asked p (Slice who n)) (sym one.done ∙ other.done) ∙ is
+
+-- ---- events that may come
+
+-- which events came, once this one did
+pub came_set : (came : List Bool) (k : ℕ) → k < length came → (q : ℕ) → came_of (set came k true) q ≡ put_at nat_eq (came_of came) k true q
+came_set came k low q = elim (cases_eq q k) [
+  | inl same ↦
+      get_or-set_at came k q true false same low
+      ∙ sym (ap (λ (b : Bool). if b then true else came_of came q) (eq-eqb q k same))
+  | inr differ ↦
+      get_or-set_other came k q true false differ
+      ∙ sym (ap (λ (b : Bool). if b then true else came_of came q) (ne_eqb q k differ))
+]
+
+module _ (asked : Asked) (p : Point) (k : ℕ) where
+  abbrev pub led : Option Event → Option Point
+  led o = option_map (λ done. with_come k (behind p done)) (option_and_then (λ event. what_comes event p.state) o)
+
+  -- it is one of the events that may come, and hasn't come
+  pub record MayCome : Type 0 where
+    pub event : Event
+    pub its : slice_get asked.once k ≡ Some event
+    pub free : p.came k ≡ false
+    pub comes : is_some (what_comes event p.state) ≡ true
+
+  pub may_come_there : IsSome (leads asked p (Once k)) → MayCome
+  unfolding leads
+  may_come_there h = go (p.came k) (slice_get asked.once k) refl refl
+    where
+      go : (b : Bool) (o : Option Event) → p.came k ≡ b → slice_get asked.once k ≡ o → MayCome
+      go true o e is = absurd (false≢true (sym (ap (λ (b : Bool). is_some (led (if b then None else slice_get asked.once k))) e) ∙ h))
+      go false None e is =
+          let at : may_come asked k p ≡ None = ap (λ (b : Bool). if b then None else slice_get asked.once k) e ∙ is in
+          absurd (false≢true (sym (ap (λ o. is_some (led o)) at) ∙ h))
+      go false (Some event) e is =
+          let at : may_come asked k p ≡ Some event = ap (λ (b : Bool). if b then None else slice_get asked.once k) e ∙ is in
+          record {
+            event = event;
+            its = is;
+            free = e;
+            comes = some_mapped (λ done. with_come k (behind p done)) (what_comes event p.state) (sym (ap (λ o. is_some (led o)) at) ∙ h);
+          }

@@ -1,0 +1,12 @@
+pub mod Asking
+pub mod Choosing
+pub mod Counts
+pub mod Edges
+pub mod Endings
+pub mod Moves
+pub mod Nodes
+pub mod Orders
+pub mod Searches
+pub mod Slices
+pub mod SlicesInTurn
+pub mod Turns

@@ -1,0 +1,116 @@
+-- Moves of an order: a slice of a Ready thread, or an event that may come once. What they make of a state with what came before it,
+-- and the events that play them.
+use Rattle.std.specs.Prelude.{ℕ, ◌-◌, ◌==◌, ◌&&◌, min, nat_eq, nat_lt, Bool, true, false, not, List, [], ◌∷◌, ◌++◌, slice_get, if◌then◌else◌, Option, Some, None}
+use Rattle.std.specs.List.{flat_map}
+use Rattle.std.specs.Option.{option_and_then, option_map, option_map_or}
+use Rattle.xk_base.specs.declared.events.Event.{Event}
+use Rattle.xk_base.specs.declared.events.Event.TheVariants.{Irq as IrqEvent, Kill, Pick, Tick}
+use Rattle.xk_base.specs.declared.ids.ThreadId.{ThreadId}
+use Rattle.xk_base.specs.declared.records.Rec.{Rec}
+use Rattle.xk_base.specs.declared.records.What.{What}
+use Rattle.xk_base.specs.declared.records.What.TheVariants.{Byte, Call, End, Fault, Gone, Irq, Reply, Retry}
+use Rattle.xk_base.specs.Tables.Counting.{put_at}
+use Rattle.machine_model.specs.State.Machine.{Machine}
+use Rattle.machine_model.specs.State.Order.{ready_at}
+use Rattle.machine_model.specs.Stepping.Events.{killed, raised}
+use Rattle.machine_model.specs.Stepping.Step.{Recorded}
+use Rattle.order_model.specs.Slices.{Slice as SliceOf, slice, turned}
+use Rattle.order_model.specs.declared.moves.Move.{Move}
+use Rattle.order_model.specs.declared.moves.Move.TheVariants.{Once, Slice}
+
+-- Whether an order has a bound of steps. It needs one where somebody claims the timer's interrupt.
+pub data Bound : Type 0 where
+  Unbounded : Bound
+  UpTo : ℕ → Bound
+
+-- the orders that are asked for: how many steps a slice has at most, their bound, and the events that may come, each once
+pub record Asked : Type 0 where
+  pub quantum : ℕ
+  pub bound : Bound
+  pub once : List Event
+
+-- a state, the bytes that went to the console before it, and which of the events came
+pub record Point : Type 0 where
+  pub state : Machine
+  pub console : List ℕ
+  pub came : ℕ → Bool
+
+-- ---- the console
+
+-- the byte that went to the console, if one did
+abbrev pub byte_of_what : What → List ℕ
+byte_of_what (Byte thread byte) = byte ∷ []
+byte_of_what (Call thread words) = []
+byte_of_what (Reply thread words) = []
+byte_of_what (Retry thread) = []
+byte_of_what (Fault thread cause value) = []
+byte_of_what (End thread) = []
+byte_of_what (Irq pid number) = []
+byte_of_what (Gone pid) = []
+
+abbrev pub bytes_of : List Rec → List ℕ
+bytes_of records = flat_map (λ told. byte_of_what told.what) records
+
+-- ---- slices
+
+-- no step is left within the bound
+abbrev pub is_at_bound : Bound → Machine → Bool
+is_at_bound Unbounded m = false
+is_at_bound (UpTo bound) m = not (nat_lt m.steps bound)
+
+-- so many steps at most, and no more than are left within the bound after so many
+abbrev pub most_within : Bound → ℕ → ℕ → ℕ
+most_within Unbounded quantum steps = quantum
+most_within (UpTo bound) quantum steps = min quantum (bound - steps)
+
+-- how many steps a slice has at most
+abbrev pub most_steps : Asked → Machine → ℕ
+most_steps asked m = most_within asked.bound asked.quantum m.steps
+
+-- the slice of this thread
+abbrev pub slice_at : Asked → ThreadId → Machine → SliceOf
+slice_at asked who m = slice (most_steps asked m) who m
+
+-- the thread may have a slice, and it has so many steps
+abbrev pub is_slice : Asked → ThreadId → ℕ → Machine → Bool
+is_slice asked who steps m = ready_at m who && (not (is_at_bound asked.bound m) && ((slice_at asked who m).done == steps))
+
+-- ---- events
+
+-- what the event makes of a state; ticks and picks don't come by themselves
+abbrev pub what_comes : Event → Machine → Option Recorded
+what_comes (Tick n) m = None
+what_comes (Pick pid tid) m = None
+what_comes (IrqEvent k) m = Some (raised k m)
+what_comes (Kill pid) m = Some (killed pid m)
+
+-- the event that may come still
+abbrev pub may_come : Asked → ℕ → Point → Option Event
+may_come asked k p = if p.came k then None else slice_get asked.once k
+
+-- ---- moves
+
+-- the point behind what was done
+abbrev pub behind : Point → Recorded → Point
+behind p done = record p { state = done.machine; console = p.console ++ bytes_of done.records }
+
+abbrev pub with_come : ℕ → Point → Point
+with_come k p = record p { came = put_at nat_eq p.came k true }
+
+-- where a move leads to from a point, where it may be made there
+unfoldable pub leads : Asked → Point → Move → Option Point
+leads asked p (Slice who steps) = if is_slice asked who steps p.state then Some (behind p (turned (slice_at asked who p.state))) else None
+leads asked p (Once k) = option_map (λ done. with_come k (behind p done)) (option_and_then (λ event. what_comes event p.state) (may_come asked k p))
+
+-- .. and an order of moves
+unfoldable pub leads_by : Asked → Point → List Move → Option Point
+leads_by asked p [] = Some p
+leads_by asked p (move ∷ order) = option_and_then (λ next. leads_by asked next order) (leads asked p move)
+
+-- the events that play a move
+abbrev pub events_of_move : Asked → Move → List Event
+events_of_move asked (Slice who steps) = Pick who.pid who.tid ∷ Tick steps ∷ []
+events_of_move asked (Once k) = option_map_or (λ event. event ∷ []) (slice_get asked.once k) []
+
+abbrev pub events_of : Asked → List Move → List Event
+events_of asked order = flat_map (events_of_move asked) order

@@ -1,0 +1,172 @@
+//! What may come next at a state.
+
+ghost use Rattle.std.specs.Prelude.{◌≡◌, ◌<◌, ◌≤◌, ◌^◌, ◌++◌, ◌∷◌, [], ℕ, IfOk, List, OnOk, Some, if◌then◌else◌, is_some, length, map, slice_get};
+ghost use Rattle.machine_model.specs.State.Machine.{Machine};
+ghost use Rattle.order_model.specs.Endings.{are_none};
+ghost use Rattle.order_model.specs.Moves.{Point, what_comes};
+ghost use Rattle.order_model.specs.Nodes.{goes_on};
+ghost use Rattle.order_model.specs.Searches.{note_of as note_of_ending};
+ghost use Rattle.order_model.specs.Asking.{asked_of, bound_of, came_of};
+ghost use Rattle.order_model.specs.Choosing.{IsSeen, IsStand, comes_at, events_at, turns_at};
+ghost use Rattle.snapshot_rows.specs.Machines.{machine_of};
+ghost use Rattle.order_model.specs.declared.choices.Choice.TheVariants.{Comes, Goes};
+ghost use Rattle.xk_base.specs.declared.limits.TheConstants.{PROCESS_LIMIT};
+
+use crate::moves::Note;
+use crate::orders::{Orders, Trail};
+use crate::turns::{has_timer, ready_ids};
+use snapshot_rows::State;
+use std::alloc::{AllocError, Global};
+use xk_base::{Event, ThreadId};
+
+/// What may come next: a slice of this thread, or the event of this number.
+#[derive(Clone, Copy, Debug, PartialEq, Eq)]
+pub enum Choice {
+    Goes(ThreadId),
+    Comes(u32),
+}
+
+/// What is seen of a node: what may come next, and its note.
+#[derive(Drop)]
+pub struct Sight {
+    pub choices: Vec<Choice>,
+    pub note: Note,
+}
+
+/// Why nothing is told of a node: want of memory, or orders without a bound come to a claim of the timer's interrupt.
+#[derive(Clone, Copy, Debug, PartialEq, Eq)]
+pub enum Unseen {
+    Memory,
+    Timer,
+}
+
+/// Whether the event may come by itself, as ticks and picks don't.
+fn comes_itself(event: Event) -> bool
+    ensures { (m : Machine) → result ≡ is_some (what_comes event m) }
+{
+    match event {
+        Event::Irq(_) | Event::Kill(_) => true,
+        Event::Tick(_) | Event::Pick(_, _) => false,
+    }
+}
+
+/// These threads are added to the choices.
+fn add_turns(choices: &mut Vec<Choice>, ids: &[ThreadId]) -> Result<(), AllocError>
+    ensures { OnOk result (choices.new.items ≡ choices.old.items ++ map Goes ids.now) }
+{
+    for who in ids {
+        choices.push(Choice::Goes(*who))?;
+    }
+    Ok(())
+}
+
+/// Whether the event of this number came.
+fn has_come(came: &[bool], number: u32) -> bool
+    requires { number < length came.now }
+    ensures { result ≡ came_of came.now number }
+{
+    came[number as usize]
+}
+
+/// The event of this number.
+fn event_at(orders: &Orders, number: u32) -> Event
+    requires { number < length orders.now.once.items }
+    ensures { slice_get orders.now.once.items number ≡ Some result }
+{
+    orders.once[number as usize]
+}
+
+/// The event of this number is added, where it may come.
+fn add_event(
+    choices: &mut Vec<Choice>,
+    orders: &Orders,
+    came: &[bool],
+    number: u32,
+) -> Result<(), AllocError>
+    requires number { number < length orders.now.once.items }
+    requires came { length came.now ≡ length orders.now.once.items }
+    ensures { (p : Point) → ((k : ℕ) → came_of came.now k ≡ p.came k) → OnOk result
+        (choices.new.items ≡ choices.old.items ++ (if comes_at (asked_of orders.now) p number then Comes number ∷ [] else [])) }
+{
+    if has_come(came, number) {
+        return Ok(());
+    }
+    if !comes_itself(event_at(orders, number)) {
+        return Ok(());
+    }
+    choices.push(Choice::Comes(number))?;
+    Ok(())
+}
+
+/// The events that may come are added.
+fn add_events(choices: &mut Vec<Choice>, orders: &Orders, came: &[bool]) -> Result<(), AllocError>
+    requires few { length orders.now.once.items < 2 ^ 32 }
+    requires came { length came.now ≡ length orders.now.once.items }
+    ensures { (p : Point) → ((k : ℕ) → came_of came.now k ≡ p.came k) → OnOk result
+        (choices.new.items ≡ choices.old.items ++ map Comes (events_at (asked_of orders.now) p)) }
+{
+    for number in 0..orders.once.len() as u32 {
+        add_event(choices, orders, came, number)?;
+    }
+    Ok(())
+}
+
+/// The threads that may have a slice at a state.
+fn turns(alloc: Global, orders: &Orders, state: &State) -> Result<Vec<ThreadId>, AllocError>
+    requires { state.now.n ≤ PROCESS_LIMIT }
+    ensures { IfOk result (λ ids. (file : List ℕ) → ids.items ≡ turns_at (asked_of orders.now) (machine_of file state.now)) }
+{
+    if orders.is_at_bound(state.steps) {
+        return Ok(Vec::new(alloc));
+    }
+    ready_ids(alloc, state)
+}
+
+/// Whether orders go on at a state: they have a bound, or nobody has claimed the timer's interrupt.
+fn go_on(orders: &Orders, state: &State) -> bool
+    ensures { (file : List ℕ) → result ≡ goes_on (bound_of orders.now.bound) (machine_of file state.now) }
+{
+    match orders.bound {
+        Some(_) => true,
+        None => !has_timer(state),
+    }
+}
+
+/// Whether there is no thread among them.
+fn is_none(ids: &[ThreadId]) -> bool
+    ensures { result ≡ are_none ids.now }
+{
+    ids.is_empty()
+}
+
+/// What is seen at a state, with what the order to it left.
+pub fn see(alloc: Global, orders: &Orders, state: &State, trail: &Trail) -> Result<Sight, Unseen>
+    requires processes { state.now.n ≤ PROCESS_LIMIT }
+    requires few { length orders.now.once.items < 2 ^ 32 }
+    requires came { length trail.now.came.items ≡ length orders.now.once.items }
+    ensures { (p : Point) → IsStand p state.now trail.now
+        → IfOk result (λ sight. IsSeen (asked_of orders.now) p sight.choices.items sight.note) }
+{
+    if !go_on(orders, state) {
+        return Err(Unseen::Timer);
+    }
+    let Ok(ids) = turns(alloc, orders, state) else {
+        return Err(Unseen::Memory);
+    };
+    let note = note_of(is_none(&ids));
+    let mut choices = Vec::new(alloc);
+    let Ok(()) = add_turns(&mut choices, &ids) else {
+        return Err(Unseen::Memory);
+    };
+    let Ok(()) = add_events(&mut choices, orders, &trail.came) else {
+        return Err(Unseen::Memory);
+    };
+    Ok(Sight { choices, note })
+}
+
+/// The note of a node at which no thread may have a slice, or some may.
+fn note_of(is_ending: bool) -> Note
+    ensures { result ≡ note_of_ending is_ending }
+{
+    if is_ending { Note::Ending } else { Note::Inner }
+}

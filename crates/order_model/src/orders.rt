@@ -1,0 +1,60 @@
+//! The orders that are asked for, and what a run of one leaves.
+
+ghost use Rattle.std.specs.Prelude.{◌≡◌, [], false, IfOk, length, replicate};
+ghost use Rattle.machine_model.specs.State.Machine.{Machine};
+ghost use Rattle.order_model.specs.Moves.{is_at_bound, most_within};
+ghost use Rattle.order_model.specs.Asking.{bound_of};
+
+use std::alloc::{AllocError, Global};
+use xk_base::Event;
+
+/// The orders that are asked for.
+#[derive(Drop)]
+pub struct Orders {
+    /// How many steps a slice has at most.
+    pub quantum: u32,
+    /// How many steps an order has at most; none where steps don't count.
+    pub bound: Option<u32>,
+    /// The events that may come, each once.
+    pub once: Vec<Event>,
+}
+
+/// What an order leaves beside a state: the bytes that went to the console, and which of the events came.
+#[derive(Drop)]
+pub struct Trail {
+    pub console: Vec<u8>,
+    pub came: Vec<bool>,
+}
+
+impl Orders {
+    /// How many steps the next slice has at most, after so many.
+    pub fn most_steps(&self, steps: u32) -> u32
+        ensures { result ≡ most_within (bound_of self.now.bound) self.now.quantum steps }
+    {
+        match self.bound {
+            None => self.quantum,
+            Some(bound) => self.quantum.min(bound.saturating_sub(steps)),
+        }
+    }
+
+    /// Whether no step is left after so many.
+    pub fn is_at_bound(&self, steps: u32) -> bool
+        ensures { (m : Machine) → steps ≡ m.steps → result ≡ is_at_bound (bound_of self.now.bound) m }
+    {
+        self.bound.is_some_and(|bound| steps >= bound)
+    }
+}
+
+impl Trail {
+    /// That of an order without moves.
+    pub fn new(alloc: Global, orders: &Orders) -> Result<Trail, AllocError>
+        ensures console { IfOk result (λ trail. trail.console.items ≡ []) }
+        ensures came { IfOk result (λ trail. trail.came.items ≡ replicate (length orders.now.once.items) false) }
+    {
+        let came = vec![in alloc; false; orders.once.len()]?;
+        Ok(Trail {
+            console: Vec::new(alloc),
+            came,
+        })
+    }
+}

@@ -1,0 +1,22 @@
+use Rattle.std.proofs.Common.{◌≤◌, ◌+◌, ℕ}
+use Rattle.xk_kernel.specs.Knowing.{IsTrusted}
+use Rattle.xk_kernel.specs.Sound.{IsSound, IsUsable, Keeps}
+use Rattle.order_player.specs.Played.{shown}
+use Rattle.order_player.specs.Steps.{AreSteps, Shown}
+use Rattle.order_player.proofs.slices.play_steps.Given as goal
+
+-- wherever the rest of the slice leads, all of it leads
+abbrev pub invariant-steps : goal.invariant-steps
+invariant-steps g l = record {
+  plays : IsTrusted g.W.SwapStore l.fn.kernel → (left : ℕ) (last : Shown)
+      → AreSteps l.left (shown g.W.SwapStore l.kernel l.console.items) left last
+      → AreSteps l.most (shown g.W.SwapStore l.fn.kernel l.fn.console.items) left last;
+  fewer : l.left ≤ l.most;
+  few : l.left + l.kernel.steps ≤ l.most + l.fn.kernel.steps;
+  sound : IsSound g.W.SwapStore l.kernel;
+  usable : IsUsable l.kernel;
+  keeps : Keeps g.W.SwapStore l.fn.kernel l.kernel;
+}
+
+abbrev pub decreases-steps : goal.decreases-steps
+decreases-steps g l = l.left

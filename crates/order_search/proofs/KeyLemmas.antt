@@ -1,0 +1,62 @@
+-- The key of the node of a run.
+use Rattle.std.proofs.Common.{◌≡◌, ◌<◌, ◌≤◌, ◌+◌, ◌∙◌, ℕ, suc, Bool, true, false, List, [], ◌∷◌, ◌++◌, length, take, Option, Some, None, is_some, refl, sym, ap, subst, arith}
+use Rattle.std.specs.Int.{from_bool}
+use Rattle.std.specs.Prelude.{get_or, map}
+use Rattle.std.proofs.Math.Seq.{take-suc}
+use Rattle.std.proofs.lemmas.List.{map-append}
+use Rattle.machine_model.specs.State.Machine.{Machine}
+use Rattle.order_search.specs.Keys.{IsToldOf, came_byte, came_list, has_bound}
+use Rattle.order_model.specs.Moves.{Asked}
+use Rattle.order_model.specs.Asking.{bound_of, came_of}
+use Rattle.suspend_image.specs.Spelling.{machine_bytes}
+use Rattle.suspend_image.specs.StateBytes.{saved_bytes, saved_parts}
+use Rattle.suspend_image.specs.Words.{word_bytes}
+
+-- ---- bytes of the events that came
+
+same_byte : (b : Bool) → from_bool b ≡ came_byte b
+same_byte true = refl
+same_byte false = refl
+
+-- the byte of the next event
+pub next_byte : (came : List Bool) (k byte : ℕ) (b : Bool) (bytes more : List ℕ) → byte ≡ from_bool b
+    → bytes ≡ map came_byte (take k came) → more ≡ bytes ++ byte ∷ [] → take (k + 1) came ≡ take k came ++ b ∷ []
+    → more ≡ map came_byte (take (k + 1) came)
+next_byte came k byte b bytes more is so_far added further =
+    added
+    ∙ ((λ i. so_far i ++ (is ∙ same_byte b) i ∷ [])
+    ∙ (sym (map-append came_byte (take k came) (b ∷ [])) ∙ ap (map came_byte) (sym further)))
+
+pub one_more : (came : List Bool) (k : ℕ) (d : Bool) → k < length came → take (k + 1) came ≡ take k came ++ get_or came k d ∷ []
+one_more came k d low = let next : k + 1 ≡ suc k = omega arith in ap (λ (n : ℕ). take n came) next ∙ take-suc came k d low
+
+-- a list of all events is told by what it tells of each
+listed_came : (came : List Bool) → came_list (length came) (came_of came) ≡ came
+unfolding came_list
+listed_came [] = refl
+listed_came (b ∷ rest) =
+    let next : (k : ℕ) → k + 1 ≡ suc k = λ k. omega arith in
+    let behind : (λ (k : ℕ). came_of (b ∷ rest) (k + 1)) ≡ came_of rest = λ i k. came_of (b ∷ rest) (next k i) in
+    ap (λ (cs : List Bool). b ∷ cs) (ap (came_list (length rest)) behind ∙ listed_came rest)
+
+-- ---- what is told of the point
+
+pub bounded : (o : Option ℕ) → is_some o ≡ has_bound (bound_of o)
+bounded None = refl
+bounded (Some bound) = refl
+
+pub told_of : (asked : Asked) (m : Machine) (console : List ℕ) (came : List Bool) (bytes told consoled : List ℕ) (counts : Bool)
+    → bytes ≡ saved_bytes m → counts ≡ has_bound asked.bound → told ≡ map came_byte came → length came ≡ length asked.once → consoled ≡ console
+    → IsToldOf asked (record { state = m; console = console; came = came_of came }) bytes counts told consoled
+told_of asked m console came bytes told consoled counts is bound events few same =
+    let all : came_list (length asked.once) (came_of came) ≡ came =
+    ap (λ (n : ℕ). came_list n (came_of came)) (sym few) ∙ listed_came came in
+    record { bytes_are = is; counts_is = bound; came_is = events ∙ ap (map came_byte) (sym all); console_is = same }
+
+-- state bytes have all that a key is made of
+saved_long : (m : Machine) → 36 ≤ length (saved_bytes m)
+unfolding saved_bytes saved_parts machine_bytes word_bytes
+saved_long m = omega arith
+
+pub long_enough : (bytes : List ℕ) (m : Machine) → bytes ≡ saved_bytes m → 36 ≤ length bytes
+long_enough bytes m is = subst (λ (b : List ℕ). 36 ≤ length b) (sym is) (saved_long m)

@@ -1,0 +1,16 @@
+use Rattle.order_model.specs.Asking.{asked_of}
+use Rattle.order_search.specs.Quests.{IsKeyOf, searching_of, start_of}
+use Rattle.order_search.proofs.EdgeLemmas.{edge_of}
+use Rattle.order_search.proofs.RunLemmas.{room_kept}
+use Rattle.order_search.proofs.quest.Quest.edge.Goals as goal
+
+pub choose-requires-clause-may : goal.choose-requires-clause-may
+choose-requires-clause-may c = c.requires.may _ c.in_ok-run.ensures.arrives
+
+pub key-key-requires-clause-room : goal.key-key-requires-clause-room
+key-key-requires-clause-room c = room_kept c.args.self.now.sheet.room c.choose.ensures.keeps c.in_ok-run.ensures.room
+
+pub returns-in-Ok-key-clause-edge : goal.returns-in-Ok-key-clause-edge
+returns-in-Ok-key-clause-edge c p arrives =
+    edge_of (IsKeyOf (searching_of c.args.self.now.subject)) (asked_of c.args.self.now.subject.orders) (start_of c.args.self.now.subject)
+    c.args.path.now p _ _ _ arrives c.in_ok-run.ensures.arrives c.in-Ok.ensures.leads c.in-Ok-key.ensures.key

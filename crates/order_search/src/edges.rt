@@ -1,0 +1,144 @@
+//! The edges that leave a node.
+
+ghost use Rattle.std.specs.Prelude.{◌≡◌, ◌≤◌, IfOk, OnOk, Some, length, map};
+ghost use Rattle.suspend_image.specs.Sheets.{room_for};
+ghost use Rattle.xk_kernel.specs.Knowing.{IsTrusted};
+ghost use Rattle.xk_kernel.specs.Sound.{IsSound, IsUsable, Keeps};
+ghost use Rattle.xk_kernel.specs.State.{machine_of};
+ghost use Rattle.order_search.specs.Keys.{came_byte};
+ghost use Rattle.order_model.specs.Moves.{Point, leads};
+ghost use Rattle.order_model.specs.Nodes.{node_of};
+ghost use Rattle.order_player.specs.Runs.{point_of};
+ghost use Rattle.order_model.specs.Asking.{asked_of};
+ghost use Rattle.order_model.specs.Choosing.{choice_of, choices_at};
+ghost use Rattle.order_model.specs.Edges.{AreEdgesBy, IsEdge};
+ghost use Rattle.order_search.specs.Quests.{Arrives, IsChoice, IsKeyOf, IsPath, searching_of};
+
+use crate::keys::node_key;
+use crate::quest::{OrderFault, Quest, no_memory, unplayed};
+use crate::runs::Run;
+use graph_search::{Successor, Unanswered};
+use order_model::{Choice, Move, Orders};
+use order_player::{play_move, play_thread};
+use std::alloc::{AllocError, Global};
+use xk_ports::{SureStore, SwapStore};
+
+/// A byte for each event, which tells whether it came.
+fn came_bytes(alloc: Global, came: &[bool]) -> Result<Vec<u8>, AllocError>
+    ensures { IfOk result (λ bytes. bytes.items ≡ map came_byte came.now) }
+{
+    let mut bytes = Vec::new(alloc);
+    for it_came in came {
+        bytes.push(u8::from(*it_came))?;
+    }
+    Ok(bytes)
+}
+
+/// Makes the choice in a run, one of those that it has.
+fn choose(orders: &Orders, run: &mut Run, choice: Choice) -> Result<Move, Unanswered<OrderFault>>
+    requires sound { IsSound ⟦<SureStore as SwapStore>⟧ run.old.kernel }
+    requires usable { IsUsable run.old.kernel }
+    requires trusted { IsTrusted ⟦<SureStore as SwapStore>⟧ run.old.kernel }
+    requires came { length run.old.trail.came.items ≡ length orders.now.once.items }
+    requires may { IsChoice (asked_of orders.now) (point_of ⟦<SureStore as SwapStore>⟧ run.old.kernel run.old.trail) choice }
+    ensures leads { let old = point_of ⟦<SureStore as SwapStore>⟧ run.old.kernel run.old.trail in
+        let new = point_of ⟦<SureStore as SwapStore>⟧ run.new.kernel run.new.trail in
+        IfOk result (λ next. leads (asked_of orders.now) old next ≡ Some new) }
+    ensures choice { IfOk result (λ next. choice_of next ≡ choice) }
+    ensures came { OnOk result (length run.new.trail.came.items ≡ length run.old.trail.came.items) }
+    ensures sound { IsSound ⟦<SureStore as SwapStore>⟧ run.new.kernel }
+    ensures usable { OnOk result (IsUsable run.new.kernel) }
+    ensures keeps { Keeps ⟦<SureStore as SwapStore>⟧ run.old.kernel run.new.kernel }
+{
+    match choice {
+        Choice::Goes(who) => match play_thread(&mut run.kernel, orders, who, &mut run.trail) {
+            Ok(steps) => Ok(Move::Slice(who, steps)),
+            Err(fault) => Err(unplayed(fault)),
+        },
+        Choice::Comes(number) => {
+            let next = Move::Once(number);
+            match play_move(&mut run.kernel, orders, next, &mut run.trail) {
+                Ok(()) => Ok(next),
+                Err(fault) => Err(unplayed(fault)),
+            }
+        }
+    }
+}
+
+impl Quest {
+    /// The key of the node of a run.
+    pub(crate) fn key(&mut self, run: &mut Run) -> Result<[u8; 32], Unanswered<OrderFault>>
+        requires sound { IsSound ⟦<SureStore as SwapStore>⟧ run.old.kernel }
+        requires usable { IsUsable run.old.kernel }
+        requires trusted { IsTrusted ⟦<SureStore as SwapStore>⟧ run.old.kernel }
+        requires came { length run.old.trail.came.items ≡ length self.old.subject.orders.once.items }
+        requires room { let m = machine_of ⟦<SureStore as SwapStore>⟧.held run.old.kernel in
+            room_for m.processes m.capacity ≤ self.old.sheet.room }
+        ensures key { let q = searching_of self.old.subject in
+            IfOk result (λ key. IsKeyOf q (node_of q.asked (point_of ⟦<SureStore as SwapStore>⟧ run.old.kernel run.old.trail)) key) }
+        ensures subject { self.new.subject ≡ self.old.subject }
+        ensures sound { IsSound ⟦<SureStore as SwapStore>⟧ run.new.kernel }
+    {
+        let Ok(()) = run.kernel.save(&mut self.sheet) else {
+            return Err(no_memory());
+        };
+        let Ok(came) = came_bytes(self.alloc, &run.trail.came) else {
+            return Err(no_memory());
+        };
+        let counts = self.subject.orders.bound.is_some();
+        Ok(node_key(self.sheet.as_slice(), counts, &came, &run.trail.console))
+    }
+
+    /// The edge by a choice from the node of this path.
+    fn edge(
+        &mut self,
+        path: &[Move],
+        choice: Choice,
+    ) -> Result<Successor<Move, [u8; 32]>, Unanswered<OrderFault>>
+        requires path { IsPath (searching_of self.old.subject) path.now }
+        requires may { let q = searching_of self.old.subject in
+            (p : Point) → Arrives q path.now p → IsChoice q.asked p choice }
+        ensures edge { let q = searching_of self.old.subject in
+            (p : Point) → Arrives q path.now p → IfOk result (λ edge. IsEdge (IsKeyOf q) q.asked p edge) }
+        ensures choice { IfOk result (λ edge. choice_of edge.label ≡ choice) }
+        ensures subject { self.new.subject ≡ self.old.subject }
+    {
+        let mut run = self.arrive(path)?;
+        let label = match choose(&self.subject.orders, &mut run, choice) {
+            Ok(label) => label,
+            Err(fault) => {
+                run.close();
+                return Err(fault);
+            }
+        };
+        let key = self.key(&mut run);
+        run.close();
+        match key {
+            Ok(key) => Ok(Successor { label, key }),
+            Err(fault) => Err(fault),
+        }
+    }
+
+    /// The edges by these choices, which are those at the end of the path.
+    pub(crate) fn edges(
+        &mut self,
+        path: &[Move],
+        choices: &[Choice],
+    ) -> Result<Vec<Successor<Move, [u8; 32]>>, Unanswered<OrderFault>>
+        requires path { IsPath (searching_of self.old.subject) path.now }
+        requires may { let q = searching_of self.old.subject in
+            (p : Point) → Arrives q path.now p → choices.now ≡ choices_at q.asked p }
+        ensures edges { let q = searching_of self.old.subject in
+            (p : Point) → Arrives q path.now p → IfOk result (λ edges. AreEdgesBy (IsKeyOf q) q.asked p choices.now edges.items) }
+        ensures subject { self.new.subject ≡ self.old.subject }
+    {
+        let mut edges = Vec::new(self.alloc);
+        for choice in choices {
+            let edge = self.edge(path, *choice)?;
+            let Ok(()) = edges.push(edge) else {
+                return Err(no_memory());
+            };
+        }
+        Ok(edges)
+    }
+}

@@ -1,0 +1,20 @@
+//! The orders of an image as a graph that is searched. A node is kept as an order that leads to it: the image is booted, and the order is
+//! played again. Nodes are told apart by keys, which are digests of the bytes that spell them.
+#![tactic(auto)]
+
+mod before;
+mod console;
+mod edges;
+mod keys;
+mod quest;
+mod runs;
+mod searching;
+mod space;
+mod standing;
+mod subject;
+
+pub use keys::node_key;
+pub use quest::{OrderFault, Quest};
+pub use searching::search_orders;
+pub use standing::Stand;
+pub use subject::Subject;

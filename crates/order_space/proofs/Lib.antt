@@ -1,9 +1,0 @@
-mod BeforeLemmas
-mod ChoiceLemmas
-mod EdgeLemmas
-mod KeyLemmas
-mod OrderLemmas
-pub mod QuestLemmas
-mod RunLemmas
-mod SpaceLemmas
-mod StandLemmas

@@ -1,4 +1,0 @@
-pub mod Booted
-pub mod Found
-pub mod Quests
-pub mod Rows

@@ -1,0 +1,12 @@
+pub mod BegunLemmas
+pub mod ExchangedCallLemmas
+pub mod ExchangedStartLemmas
+pub mod Files
+pub mod Images
+pub mod MatchedRunLemmas
+pub mod OutputLemmas
+pub mod ResumedLemmas
+pub mod Splitting
+pub mod StartLemmas
+pub mod Suspended
+pub mod UnwindingLemmas

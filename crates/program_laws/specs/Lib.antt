@@ -1,0 +1,9 @@
+pub mod Exchanged
+pub mod ExchangedCalls
+pub mod Known
+pub mod Resumed
+pub mod SplitCalls
+pub mod Splits
+pub mod Starting
+pub mod SuspendedCalls
+pub mod Unwinding

@@ -1,4 +1,0 @@
-pub mod Answering
-pub mod Ordering
-pub mod StuckLemmas
-pub mod Turning

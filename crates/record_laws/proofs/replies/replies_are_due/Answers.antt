@@ -1,6 +1,0 @@
-use Rattle.record_laws.proofs.Answering.DueLemmas.{replies_are_due}
-use Rattle.record_laws.proofs.replies.replies_are_due.Goals as goal
-
--- src/replies.rt
-pub returns : goal.returns
-returns c = replies_are_due

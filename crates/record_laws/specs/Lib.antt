@@ -1,5 +1,0 @@
-pub mod AnsweredOnce
-pub mod Answering
-pub mod RecordOrder
-pub mod Stuck
-pub mod Turns

@@ -1,0 +1,10 @@
+pub mod Calling
+pub mod Changing
+pub mod Executing
+pub mod FileLemmas
+pub mod SaveableLemmas
+pub mod SizeLemmas
+pub mod SpellableLemmas
+pub mod SpelledLemmas
+pub mod Stepping
+pub mod Words

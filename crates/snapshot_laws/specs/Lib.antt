@@ -1,0 +1,4 @@
+pub mod Keeping
+pub mod KeepingWords
+pub mod Spelled
+pub mod Words

@@ -1,0 +1,5 @@
+pub mod KeyLemmas
+pub mod Keys
+pub mod LedgerLemmas
+pub mod LoanRuns
+pub mod Pages

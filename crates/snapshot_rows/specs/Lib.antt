@@ -1,0 +1,4 @@
+pub mod Machines
+pub mod Order
+pub mod PageParts
+pub mod RunParts

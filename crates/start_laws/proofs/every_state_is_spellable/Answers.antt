@@ -1,9 +1,0 @@
-use Rattle.start_laws.proofs.StartLemmas.{every_last_spellable, every_state_spellable}
-use Rattle.start_laws.proofs.every_state_is_spellable.Goals as goal
-
--- src/lib.rt
-pub returns-clause-moments : goal.returns-clause-moments
-returns-clause-moments c = every_state_spellable
-
-pub returns-clause-last : goal.returns-clause-last
-returns-clause-last c = every_last_spellable

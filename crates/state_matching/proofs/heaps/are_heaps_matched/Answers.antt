@@ -1,6 +1,0 @@
-use Rattle.state_matching.proofs.ProcessRows.HeapLemmas.{heaps_matched_told}
-use Rattle.state_matching.proofs.heaps.are_heaps_matched.Goals as goal
-
-pub returns : goal.returns
-returns c file orphans =
-    heaps_matched_told file orphans c.args.procs.now c.args.pages.now c.are_heaps_told.result c.requires c.are_heaps_told.ensures

@@ -1,7 +1,0 @@
-use Rattle.std.proofs.Common.{ℕ, ◌+◌, ◌<◌}
-use Rattle.std.specs.Prelude.{IsTrue}
-use Rattle.state_matching.specs.ThreadParts.{is_served}
-use Rattle.state_matching.proofs.threads.are_living_served.Given as goal
-
-abbrev pub invariant-loop-i : goal.invariant-loop-i
-invariant-loop-i l = (j : ℕ) → j < l.i → IsTrue (is_served l.procs l.threads (j + 2))

@@ -1,4 +1,0 @@
-pub mod Causes
-pub mod Claimant
-pub mod Fates
-pub mod KeptOthers

@@ -1,3 +1,0 @@
-pub mod Arming
-pub mod Raising
-pub mod TimerLaw

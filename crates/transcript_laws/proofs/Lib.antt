@@ -1,0 +1,9 @@
+pub mod Accepting
+pub mod Answering
+pub mod AtServers
+pub mod Coming
+pub mod Following
+pub mod Ordering
+pub mod Serving
+pub mod StuckLemmas
+pub mod Turning

@@ -1,0 +1,15 @@
+pub mod Accepting
+pub mod Answered
+pub mod AnsweredOnce
+pub mod Answering
+pub mod AtServers
+pub mod Coming
+pub mod Contents
+pub mod DeliveredOnce
+pub mod Following
+pub mod NothingLost
+pub mod Order
+pub mod RecordOrder
+pub mod Serving
+pub mod Stuck
+pub mod Turns

@@ -1,3 +1,0 @@
-pub mod AskedLemmas
-pub mod AnswerLemmas
-pub mod RunLemmas

@@ -1,6 +1,0 @@
-use Rattle.xk_kernel.proofs.Starting.StartPageLemmas.{start_pages}
-use Rattle.xk_kernel.proofs.starts.start_has_the_planned_pages.Goals as goal
-
--- src/moments.rt
-pub returns : goal.returns
-returns c = start_pages
