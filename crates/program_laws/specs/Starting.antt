@@ -14,6 +14,7 @@ use Rattle.snapshot_rows.specs.Machines.{machine_of}
 use Rattle.suspend_image.specs.Saveable.{IsSpellable}
 use Rattle.snapshot_laws.specs.Words.{greatest}
 use Rattle.xk_kernel.specs.Start.{start}
+use Rattle.xk_base.specs.declared.limits.TheConstants.{STEP_LIMIT}
 
 -- ---- beginnings
 
@@ -49,11 +50,11 @@ BeginsSpellable = (m : Machine) → Begins m → IsSpellable m
 -- each one of every history up to a limit
 abbrev pub EveryStateSpellable : Type 0
 EveryStateSpellable =
-    (m : Machine) → Begins m → (events : List Event) (limit : ℕ) → m.steps ≤ limit → limit ≤ 4000000000 → (i : ℕ)
+    (m : Machine) → Begins m → (events : List Event) (limit : ℕ) → m.steps ≤ limit → limit ≤ STEP_LIMIT → (i : ℕ)
     → IsSpellable (state_at m (moments_of events limit m) i)
 
 -- .. and its last
 abbrev pub EveryLastSpellable : Type 0
 EveryLastSpellable =
-    (m : Machine) → Begins m → (events : List Event) (limit : ℕ) → m.steps ≤ limit → limit ≤ 4000000000
+    (m : Machine) → Begins m → (events : List Event) (limit : ℕ) → m.steps ≤ limit → limit ≤ STEP_LIMIT
     → IsSpellable (history events limit m).machine

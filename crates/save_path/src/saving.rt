@@ -16,6 +16,7 @@ ghost use Rattle.vm_memory.specs.Sound.{IsSound};
 ghost use Rattle.xk_base.specs.Outside.{Rose};
 ghost use Rattle.xk_base.specs.Tables.Circle.{is_thread_id};
 ghost use Rattle.xk_parts.specs.Comes.{ComesTo};
+ghost use Rattle.xk_base.specs.declared.limits.TheConstants.{STEP_LIMIT};
 
 use crate::claims::write_claims;
 use crate::numbers::{Numbers, write_numbers};
@@ -120,7 +121,7 @@ pub fn save<W: SwapStore>(
         OnOk result (IsSaved (MeansBytes W.SwapStore mem.old) m sheet.new.bytes) }
     // These bytes are read as the machine again (suspend_image): its numbers fit into words.
     ensures saveable { let m = saved_machine W.held numbers (saved_parts mem.new threads.now procs.now servers.now queues.now claims.now) in
-        OnOk result (m.steps ≤ 4000000000 → IsReservedByThread m → IsSaveable m) }
+        OnOk result (m.steps ≤ STEP_LIMIT → IsReservedByThread m → IsSaveable m) }
     ensures room { sheet.new.room ≡ sheet.old.room }
 {
     begin_state(sheet);

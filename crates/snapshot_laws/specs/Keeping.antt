@@ -11,6 +11,7 @@ use Rattle.snapshot_rows.specs.declared.state.State.{State}
 use Rattle.snapshot_rows.specs.Machines.{machine_of}
 use Rattle.suspend_image.specs.Forms.{Spells}
 use Rattle.suspend_image.specs.Saveable.{IsSpellable}
+use Rattle.xk_base.specs.declared.limits.TheConstants.{STEP_LIMIT}
 
 -- there are as many processes, and there is as much room for pages
 abbrev pub IsSameSize : Machine → Machine → Type 0
@@ -27,18 +28,18 @@ AllKeepReserved = (cause : Cause) (m : Machine) → Matched m → IsReservedByTh
 -- whatever leads from a state that state bytes spell to the next leads to such a state
 abbrev pub AllKeepSpellable : Type 0
 AllKeepSpellable =
-    (cause : Cause) (m : Machine) → IsSpellable m → (caused cause m).steps ≤ 4000000000 → IsSpellable (caused cause m)
+    (cause : Cause) (m : Machine) → IsSpellable m → (caused cause m).steps ≤ STEP_LIMIT → IsSpellable (caused cause m)
 
 -- each state of a history from such a state
 abbrev pub MomentsSpellable : Type 0
 MomentsSpellable =
-    (events : List Event) (limit : ℕ) (start : Machine) → IsSpellable start → start.steps ≤ limit → limit ≤ 4000000000 → (i : ℕ)
+    (events : List Event) (limit : ℕ) (start : Machine) → IsSpellable start → start.steps ≤ limit → limit ≤ STEP_LIMIT → (i : ℕ)
     → IsSpellable (state_at start (moments_of events limit start) i)
 
 -- .. and its last
 abbrev pub LastSpellable : Type 0
 LastSpellable =
-    (events : List Event) (limit : ℕ) (start : Machine) → IsSpellable start → start.steps ≤ limit → limit ≤ 4000000000
+    (events : List Event) (limit : ℕ) (start : Machine) → IsSpellable start → start.steps ≤ limit → limit ≤ STEP_LIMIT
     → IsSpellable (history events limit start).machine
 
 -- The state that a file spells, where the machine can be in it and it has no more pages than a machine has frames and slots.

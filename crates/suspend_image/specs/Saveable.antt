@@ -15,6 +15,7 @@ use Rattle.suspend_image.specs.Forms.{Spells}
 use Rattle.snapshot_rows.specs.Machines.{machine_of}
 use Rattle.suspend_image.specs.Reading.{greatest}
 use Rattle.suspend_image.specs.SavedRows.{state_waits}
+use Rattle.xk_base.specs.declared.limits.TheConstants.{STEP_LIMIT}
 
 -- A thread has 32 registers, an identifier and a message have four words, and a page has 4,096 bytes.
 pub record HasSizes (m : Machine) : Type 0 where
@@ -49,7 +50,7 @@ pub record IsSaveable (m : Machine) : Type 0 where
   pub sizes : HasSizes m
   pub capacity : m.capacity ≤ 32768
   pub some_process : 1 ≤ m.processes
-  pub steps : m.steps ≤ 4000000000
+  pub steps : m.steps ≤ STEP_LIMIT
   pub cursor : IsTrue (is_thread_id m.processes m.cursor)
   pub compare : (at : ℕ) → m.compare ≡ Some at → at ≤ greatest
   pub reserved_by : (r : Reservation) → m.reserved ≡ Some r → IsTrue (is_thread_id m.processes r.who)

@@ -27,13 +27,14 @@ use Rattle.xk_kernel.specs.State.{machine_of}
 use Rattle.xk_kernel.specs.declared.kernel.Kernel.{Kernel}
 use Rattle.xk_kernel.specs.declared.kernel.calls.CallerFate.{CallerFate}
 use Rattle.xk_kernel.specs.declared.kernel.calls.CallerFate.TheVariants.{Answered, Waits, Retries}
+use Rattle.xk_base.specs.declared.limits.TheConstants.{STEP_LIMIT}
 
 -- the kernel is sound and usable, and the thread whose turn it is can make a call
 pub record IsCaller {W : Type 0} (S : SwapStore W) (k : Kernel W) : Type 0 where
   pub whole : IsWhole S k
   pub usable : IsUsable k
   pub matched : Matched (machine_of S.held k)
-  pub few : k.steps < 4000000000
+  pub few : k.steps < STEP_LIMIT
   pub ready : ready_at (machine_of S.held k) k.cursor ≡ true
 
 -- the caller is the interrupt thread, and the call can make it wait

@@ -20,6 +20,7 @@ ghost use Rattle.xk_kernel.specs.QuietOver.{Lent, RunsOver, StepsOver};
 ghost use Rattle.xk_kernel.specs.Sound.{IsSound, IsUsable, IsWhole, Keeps};
 ghost use Rattle.xk_kernel.specs.State.{machine_of};
 ghost use Rattle.xk_kernel.specs.Stepping.{last_of};
+ghost use Rattle.xk_base.specs.declared.limits.TheConstants.{STEP_LIMIT};
 
 use crate::kernel::stepping::reservation;
 use crate::kernel::{Kernel, SwapFault};
@@ -39,7 +40,7 @@ impl<W: SwapStore> Kernel<W> {
     pub fn run_quiet(&mut self, most: u32) -> Result<u32, SwapFault>
         requires sound { IsSound W.SwapStore self.old }
         requires usable { IsUsable self.old }
-        requires few { (machine_of W.held self.old).steps + most ≤ 4000000000 }
+        requires few { (machine_of W.held self.old).steps + most ≤ STEP_LIMIT }
         ensures sound { IsSound W.SwapStore self.new }
         ensures usable { OnOk result (IsUsable self.new) }
         ensures failed { OnErr result (has_failed self.new.mem ≡ true) }
@@ -78,7 +79,7 @@ impl<W: SwapStore> Kernel<W> {
 
     // How many of the next steps, of at most so many, end before one at whose end the timer is due.
     fn steps_before_due(&self, most: u32) -> u32
-        requires few { self.now.steps + most ≤ 4000000000 }
+        requires few { self.now.steps + most ≤ STEP_LIMIT }
         ensures most { result ≤ most }
         ensures rests { (j : ℕ) → j < result → is_due self.now.timer (self.now.steps + j + 1) ≡ false }
         ensures due { result < most → is_due self.now.timer (self.now.steps + result + 1) ≡ true }
@@ -138,7 +139,7 @@ impl<W: SwapStore> Kernel<W> {
     // The cursor's thread goes back to its table, after so many steps without a record.
     fn take_back(&mut self, who: ThreadId, thread: Thread, reserved: Option<u32>, done: u32)
         requires there { IsSome ((machine_of W.held self.old).threads who) }
-        requires few { self.old.steps + done ≤ 4000000000 }
+        requires few { self.old.steps + done ≤ STEP_LIMIT }
         ensures machine { machine_of W.held self.new
             ≡ in_hand who (thread_of thread) reserved (self.old.steps + done) (machine_of W.held self.old) }
         ensures whole { IsWhole W.SwapStore self.old → IsWhole W.SwapStore self.new }

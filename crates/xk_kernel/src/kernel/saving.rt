@@ -14,6 +14,7 @@ ghost use Rattle.xk_kernel.specs.Knowing.{ComesTo, PutsNoneOut};
 ghost use Rattle.xk_kernel.specs.Sound.{IsSound, IsUsable, Keeps};
 ghost use Rattle.xk_kernel.specs.State.{machine_of};
 ghost use Rattle.xk_kernel.specs.Stepping.{last_of};
+ghost use Rattle.xk_base.specs.declared.limits.TheConstants.{STEP_LIMIT};
 
 use crate::kernel::{Kernel, SwapFault};
 use save_path::{Numbers, save};
@@ -43,7 +44,7 @@ impl<W: SwapStore> Kernel<W> {
         ensures alike { OnOk result (IsSaved (MeansBytes W.SwapStore self.old.mem) (machine_of W.held self.new) sheet.new.bytes) }
         // These bytes are read as the machine again (suspend_image): its numbers fit into words.
         ensures saveable { let m = machine_of W.held self.new in
-            OnOk result (m.steps ≤ 4000000000 → IsReservedByThread m → IsSaveable m) }
+            OnOk result (m.steps ≤ STEP_LIMIT → IsReservedByThread m → IsSaveable m) }
         ensures room { sheet.new.room ≡ sheet.old.room }
         ensures last { last_of self.new ≡ last_of self.old }
         // A swap fault comes only where the store's count rose and a page is out. No page goes out where none is.

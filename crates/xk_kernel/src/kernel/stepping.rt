@@ -18,6 +18,7 @@ ghost use Rattle.xk_kernel.specs.Knowing.{IsCrowded, KnowsBytes, PutsNoneOut};
 ghost use Rattle.xk_kernel.specs.Sound.{IsSound, IsUsable, IsWhole, Keeps};
 ghost use Rattle.xk_kernel.specs.State.{as_reservation, machine_of};
 ghost use Rattle.xk_kernel.specs.Stepping.{CountsStep, DoesStep, MayExchange};
+ghost use Rattle.xk_base.specs.declared.limits.TheConstants.{STEP_LIMIT};
 
 use crate::kernel::threads::THREAD_RETURN;
 use crate::kernel::{Kernel, Stepped, SwapFault};
@@ -61,7 +62,7 @@ impl<W: SwapStore> Kernel<W> {
     pub fn step(&mut self) -> Result<Stepped, SwapFault>
         requires sound { IsSound W.SwapStore self.old }
         requires usable { IsUsable self.old }
-        requires few { (machine_of W.held self.old).steps < 4000000000 }
+        requires few { (machine_of W.held self.old).steps < STEP_LIMIT }
         ensures sound { IsSound W.SwapStore self.new }
         ensures usable { OnOk result (IsUsable self.new) }
         ensures failed { OnErr result (has_failed self.new.mem ≡ true) }
@@ -86,7 +87,7 @@ impl<W: SwapStore> Kernel<W> {
     fn step_of(&mut self, who: ThreadId) -> Result<Stepped, SwapFault>
         requires sound { IsSound W.SwapStore self.old }
         requires usable { IsUsable self.old }
-        requires few { (machine_of W.held self.old).steps < 4000000000 }
+        requires few { (machine_of W.held self.old).steps < STEP_LIMIT }
         requires who { actor (machine_of W.held self.old) ≡ Some who }
         ensures sound { IsSound W.SwapStore self.new }
         ensures usable { OnOk result (IsUsable self.new) }
@@ -112,7 +113,7 @@ impl<W: SwapStore> Kernel<W> {
     fn act(&mut self, who: ThreadId) -> Result<Option<u32>, SwapFault>
         requires sound { IsSound W.SwapStore self.old }
         requires usable { IsUsable self.old }
-        requires few { self.old.steps < 4000000000 }
+        requires few { self.old.steps < STEP_LIMIT }
         requires who { actor (machine_of W.held self.old) ≡ Some who }
         ensures whole { IsWhole W.SwapStore self.new }
         ensures usable { OnOk result (IsUsable self.new) }
@@ -167,7 +168,7 @@ impl<W: SwapStore> Kernel<W> {
     fn act_end(&mut self, who: ThreadId, a0: u32)
         requires sound { IsSound W.SwapStore self.old }
         requires usable { IsUsable self.old }
-        requires few { self.old.steps < 4000000000 }
+        requires few { self.old.steps < STEP_LIMIT }
         requires who { actor (machine_of W.held self.old) ≡ Some who }
         requires ends { (t : ModelThread) → (machine_of W.held self.old).threads who ≡ Some t → (ends_thread who t.pc ≡ true)
             × (reg_at t.regs 10 ≡ a0) }
@@ -185,7 +186,7 @@ impl<W: SwapStore> Kernel<W> {
     fn act_handler(&mut self, who: ThreadId)
         requires sound { IsSound W.SwapStore self.old }
         requires usable { IsUsable self.old }
-        requires few { self.old.steps < 4000000000 }
+        requires few { self.old.steps < STEP_LIMIT }
         requires who { actor (machine_of W.held self.old) ≡ Some who }
         requires ends { (t : ModelThread) → (machine_of W.held self.old).threads who ≡ Some t → (ends_thread who t.pc ≡ false)
             × (ends_handler who t.pc ≡ true) }
@@ -204,7 +205,7 @@ impl<W: SwapStore> Kernel<W> {
     fn tell_console(&mut self, who: ThreadId, offset: u32, value: u32)
         requires whole { IsWhole W.SwapStore self.old }
         requires id { IsTrue (is_thread_id (processes self.old.mem) who) }
-        requires few { self.old.steps < 4000000000 }
+        requires few { self.old.steps < STEP_LIMIT }
         ensures whole { IsWhole W.SwapStore self.new }
         ensures machine { machine_of W.held self.new ≡ record (machine_of W.held self.old) { cursor = who } }
         ensures mem { self.new.mem ≡ self.old.mem }

@@ -9,6 +9,7 @@ ghost use Rattle.xk_kernel.specs.Sound.{IsWhole};
 ghost use Rattle.xk_parts.specs.Shown.{thread_of};
 ghost use Rattle.xk_kernel.specs.State.{machine_of};
 ghost use Rattle.xk_kernel.specs.Telling.{Tells};
+ghost use Rattle.xk_base.specs.declared.limits.TheConstants.{STEP_LIMIT};
 
 use crate::kernel::Kernel;
 use irq_path::fresh_registers;
@@ -73,7 +74,7 @@ impl<W: SwapStore> Kernel<W> {
     pub(super) fn begin(&mut self, who: ThreadId)
         requires whole { IsWhole W.SwapStore self.old }
         requires id { IsTrue (is_thread_id (processes self.old.mem) who) }
-        requires few { self.old.steps < 4000000000 }
+        requires few { self.old.steps < STEP_LIMIT }
         ensures whole { IsWhole W.SwapStore self.new }
         ensures machine { machine_of W.held self.new ≡ record (machine_of W.held self.old) { cursor = who } }
         ensures mem { self.new.mem ≡ self.old.mem }
