@@ -8,6 +8,7 @@ use Rattle.boot_plan.specs.declared.plans.ProcPlan.{ProcPlan}
 use Rattle.boot_plan.specs.declared.plans.PagePlan.{PagePlan}
 use Rattle.boot_plan.specs.Capacity.{capacity}
 use Rattle.boot_plan.specs.FirstPages.{planned_pages}
+use Rattle.xk_base.specs.declared.limits.TheConstants.{PROCESS_LIMIT}
 
 -- the page lies in a window, and its bytes within a page and within a file of this many bytes
 pub record IsLawfulPage (file_len : ℕ) (page : PagePlan) : Type 0 where
@@ -23,7 +24,7 @@ pub record IsLawfulProcess (file_len : ℕ) (p : ProcPlan) : Type 0 where
 -- Memory can hold the first pages of the plan, with their bytes from a file of this many bytes.
 pub record IsLawfulPlan (file_len : ℕ) (plan : BootPlan) : Type 0 where
   pub some : 1 ≤ length plan.procs
-  pub few : length plan.procs ≤ 64
+  pub few : length plan.procs ≤ PROCESS_LIMIT
   pub tables : table_frames (length plan.procs) + 2 ≤ plan.frames
   pub frames : plan.frames ≤ 16384
   pub start_whole : plan.ram_start % 4096 ≡ 0

@@ -9,7 +9,7 @@ ghost use Rattle.boot_plan.specs.Sections.{shares_page, has_page, is_executable}
 ghost use Rattle.boot_plan.specs.Faults.{IsFaultAt, section_faults, sections_faults, is_bad_load, is_entry_outside, process_faults};
 ghost use Rattle.boot_plan.specs.Faults.{processes_faults, is_ram_too_small, plan_fault};
 ghost use Rattle.boot_plan.specs.FirstPages.{process_pages, process_plan};
-ghost use Rattle.xk_base.specs.declared.limits.TheConstants.{SLOT_LIMIT};
+ghost use Rattle.xk_base.specs.declared.limits.TheConstants.{PROCESS_LIMIT, SLOT_LIMIT};
 
 use crate::capacity::capacity_of;
 use crate::faults::{
@@ -131,7 +131,7 @@ fn process_fault(words: u32, file: &[u8], pid: u32, process: &ProcArgs) -> Optio
 
 /// The first fault of the processes of an image.
 fn processes_fault(words: u32, file: &[u8], processes: &[ProcArgs]) -> Option<ArgFault>
-    requires few { length processes.now ≤ 64 }
+    requires few { length processes.now ≤ PROCESS_LIMIT }
     requires sections { All (λ p. length p.sections ≤ 32) processes.now }
     requires size { length file.now ≤ 67108864 }
     ensures { result ≡ first_fault (processes_faults words file.now 2 processes.now) }
@@ -162,7 +162,7 @@ fn first_pages(process: &ProcArgs) -> u32
 
 /// How many pages processes start with.
 fn all_first_pages(processes: &[ProcArgs]) -> u32
-    requires few { length processes.now ≤ 64 }
+    requires few { length processes.now ≤ PROCESS_LIMIT }
     requires sections { All (λ p. length p.sections ≤ 32) processes.now }
     ensures { result ≡ sum_by (λ p. length p.pages) (map process_plan processes.now) }
 {

@@ -6,6 +6,7 @@ use Rattle.xk_base.specs.declared.records.Rec.{Rec}
 use Rattle.xk_base.specs.declared.records.What.{What}
 use Rattle.xk_base.specs.declared.records.What.TheVariants.{Byte, Call, End, Fault, Gone, Irq, Reply, Retry}
 use Rattle.demo_load.specs.declared.totals.Totals.{Totals}
+use Rattle.xk_base.specs.declared.limits.TheConstants.{PROCESS_LIMIT, TID_LIMIT}
 
 -- an answer to a client, any process but the server's, that begins with word 18: what was sent came back
 abbrev pub is_send : What → Bool
@@ -50,7 +51,7 @@ totals_of records = record {
 
 -- A step tells at most so many records: of each of 31 threads of 64 processes an answer, and four more.
 abbrev pub step_records : ℕ
-step_records = 64 * 31 + 4
+step_records = PROCESS_LIMIT * TID_LIMIT + 4
 
 -- no more was counted than so many steps can tell
 pub record IsWithin (steps : ℕ) (totals : Totals) : Type 0 where

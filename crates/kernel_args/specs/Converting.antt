@@ -10,6 +10,7 @@ use Rattle.kernel_args.specs.Tags.{Tag, tag_bytes, front_tag, has_name}
 use Rattle.kernel_args.specs.Image.{header_tag, Spells}
 use Rattle.kernel_args.specs.Writing.{with_load, process_tag}
 use Rattle.kernel_args.specs.Loads.{file_sizes, loaded_bytes, is_load_outside}
+use Rattle.xk_base.specs.declared.limits.TheConstants.{PROCESS_LIMIT}
 
 -- the tags in a row of tags
 abbrev pub tags_in : List ℕ → List Tag
@@ -68,7 +69,7 @@ pub record IsRowOf (args : Args) (bytes : List ℕ) : Type 0 where
   pub header : 28 ≤ 4 * args.words
   pub within : 4 * args.words ≤ length bytes
   pub words : args.words < 2 ^ 32
-  pub procs : length args.procs ≤ 64
+  pub procs : length args.procs ≤ PROCESS_LIMIT
 
 -- The bytes are an image of version 1 of these arguments, no process begins in the row of tags or passes the end of
 -- the file, and the new image has at most 64 MiB.

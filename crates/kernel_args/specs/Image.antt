@@ -10,6 +10,7 @@ use Rattle.kernel_args.specs.CheckNumber.{check_number}
 use Rattle.kernel_args.specs.Tags.{Tag, IsTag, tag_bytes, has_name, is_slots, contents_of}
 use Rattle.kernel_args.specs.Contents.{header_contents, process_contents, HasCheck, IsProcess, slots_contents, Entry, IsEntry, entry_bytes}
 use Rattle.kernel_args.specs.Contents.{name_of}
+use Rattle.xk_base.specs.declared.limits.TheConstants.{PROCESS_LIMIT, FIRST_PROCESS_LIMIT}
 
 -- RAM is whole pages of 4096 bytes, at most 64 MiB, and ends at or below the console at 0xF000_0000.
 pub record IsRam (start size : ℕ) : Type 0 where
@@ -21,7 +22,7 @@ pub record IsRam (start size : ℕ) : Type 0 where
 
 -- an image of version 1 has up to 32 processes, one of version 2 up to 64
 abbrev pub process_limit : ℕ → ℕ
-process_limit version = if version == 2 then 64 else 32
+process_limit version = if version == 2 then PROCESS_LIMIT else FIRST_PROCESS_LIMIT
 
 -- one to 32 sections, no section flag but 1, 2, 4, 8 and 16, and a check number exactly in version 2
 pub record IsSoundProcess (version : ℕ) (p : ProcArgs) : Type 0 where

@@ -7,7 +7,7 @@ ghost use Rattle.kernel_args.specs.Contents.{IsSection, IsProcess};
 ghost use Rattle.kernel_args.specs.Image.{process_limit as process_limit_of, Spells};
 ghost use Rattle.kernel_args.specs.Writing.{with_size, with_load, header_row, slots_row, process_row, row_size, names_row};
 ghost use Rattle.kernel_args.specs.Writing.{names_contents as names_contents_of, HasPid, IsWritable, written};
-ghost use Rattle.xk_base.specs.declared.limits.TheConstants.{SLOT_LIMIT};
+ghost use Rattle.xk_base.specs.declared.limits.TheConstants.{PROCESS_LIMIT, SLOT_LIMIT};
 
 use crate::appending::{
     append_tag, header_contents, names_contents, process_contents, slots_contents,
@@ -78,9 +78,9 @@ fn row_size(process: &ProcArgs) -> u32
 
 /// The size in bytes of the `IniE` of at most 64 processes, or None where one can't be written.
 fn processes_size(version: u32, processes: &[ProcArgs]) -> Option<usize>
-    requires { length processes.now ≤ 64 }
+    requires { length processes.now ≤ PROCESS_LIMIT }
     ensures { MatchOption result (¬ All (IsProcess version) processes.now)
-        (λ n. All (IsProcess version) processes.now × (n ≡ length (flat_map process_row processes.now)) × (n ≤ 276 * 64)) }
+        (λ n. All (IsProcess version) processes.now × (n ≡ length (flat_map process_row processes.now)) × (n ≤ 276 * PROCESS_LIMIT)) }
 {
     if !processes.iter().all(|process| is_process(version, process)) {
         return None;

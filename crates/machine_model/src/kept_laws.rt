@@ -9,6 +9,7 @@ ghost use Rattle.machine_model.specs.Runs.Matched.{Matched};
 ghost use Rattle.machine_model.specs.Runs.Reserving.{ReservationHolds};
 ghost use Rattle.machine_model.specs.Worked.Rows.{small_machine};
 ghost use Rattle.machine_model.specs.State.Start.{IsStart};
+ghost use Rattle.xk_base.specs.declared.limits.TheConstants.{PROCESS_LIMIT};
 
 /// The end of a turn keeps the machine matched.
 pub fn turn_keeps_matched()
@@ -38,7 +39,7 @@ pub fn start_is_matched()
 
 /// The small machine from which the worked rows start is matched.
 pub fn small_machine_is_matched()
-    ensures { (n : ℕ) → n ≤ 64 → Matched (small_machine n) }
+    ensures { (n : ℕ) → n ≤ PROCESS_LIMIT → Matched (small_machine n) }
 {}
 
 /// Where steps keep the cursor, all that leads from a state to the next does.

@@ -10,6 +10,7 @@ ghost use Rattle.thread_table.specs.Shown.{process_count, threads_of};
 ghost use Rattle.xk_base.specs.Tables.Circle.{same_thread};
 ghost use Rattle.xk_base.specs.declared.ids.ThreadId.{ThreadId as Id};
 ghost use Rattle.resume_path.specs.Resumable.{CanResume};
+ghost use Rattle.xk_base.specs.declared.limits.TheConstants.{PROCESS_LIMIT};
 
 use std::alloc::Global;
 use suspend_image::{State, ThreadRow};
@@ -43,7 +44,7 @@ fn registers(words: &[u32; 31]) -> Regs
 
 // The thread of a row is started, where there is none of its id.
 fn start_thread(threads: &mut Threads, row: &ThreadRow)
-    requires few { process_count threads.old ≤ 64 }
+    requires few { process_count threads.old ≤ PROCESS_LIMIT }
     requires row { IsThreadRow (process_count threads.old) None row.now }
     requires free { threads_of threads.old (thread_at_id row.now.pid row.now.tid) ≡ None }
     ensures after { let id = thread_at_id row.now.pid row.now.tid in

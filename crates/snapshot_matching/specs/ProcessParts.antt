@@ -2,7 +2,7 @@
 use Rattle.std.specs.Prelude.{◌≡◌, ℕ, ◌+◌, ◌/◌, ◌%◌, ◌≤◌, ◌==◌, ◌&&◌, ◌||◌, not, nat_le, nat_lt, Bool, true, IsFalse, List, [], ◌∷◌, length}
 use Rattle.std.specs.List.{list_any, list_all}
 use Rattle.xk_base.specs.declared.ids.Pid.{Pid}
-use Rattle.xk_base.specs.declared.limits.TheConstants.{PAGE_SIZE, CONNECTION_LIMIT}
+use Rattle.xk_base.specs.declared.limits.TheConstants.{CONNECTION_LIMIT, PAGE_SIZE, PROCESS_LIMIT}
 use Rattle.machine_model.specs.State.Machine.{Process}
 use Rattle.machine_model.specs.Calling.MemoryCalls.{heap_limit}
 use Rattle.snapshot_rows.specs.declared.state.ProcRow.{ProcRow}
@@ -23,7 +23,7 @@ are_apart (serial ∷ serials) = not (list_any (λ other. other == serial) seria
 
 -- at most 64 processes, within their limits, and of each no two connections lead to one server
 abbrev pub are_processes_told : ℕ → List ProcRow → Bool
-are_processes_told n procs = nat_le n 64 && (list_all is_within_limits procs && list_all (λ p. are_apart p.serials) procs)
+are_processes_told n procs = nat_le n PROCESS_LIMIT && (list_all is_within_limits procs && list_all (λ p. are_apart p.serials) procs)
 
 -- part 8 of processes, each for itself
 pub record AreProcessesLimited (process : ℕ → Process) : Type 0 where

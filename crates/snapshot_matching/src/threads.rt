@@ -10,6 +10,7 @@ ghost use Rattle.snapshot_matching.specs.ThreadParts.{is_awaited as is_awaited_o
 ghost use Rattle.snapshot_matching.specs.ThreadParts.{joins_another as joins_another_of};
 ghost use Rattle.snapshot_matching.specs.ThreadParts.{is_thread_living as is_thread_living_of, is_thread_right as is_thread_right_of};
 ghost use Rattle.snapshot_matching.specs.ThreadParts.{AreThreadsRight};
+ghost use Rattle.xk_base.specs.declared.limits.TheConstants.{PROCESS_LIMIT};
 
 use snapshot_rows::{ProcRow, ServerRow, ThreadRow, is_alive};
 use xk_base::limits::TID_LIMIT;
@@ -168,7 +169,7 @@ fn is_served(procs: &[ProcRow], threads: &[ThreadRow], pid: u32) -> bool
 
 /// Part 6, of the processes: a living one has a tid 1 that is Ready or Idle, and a thread above.
 pub fn are_living_served(procs: &[ProcRow], threads: &[ThreadRow]) -> bool
-    requires few { length procs.now ≤ 64 }
+    requires few { length procs.now ≤ PROCESS_LIMIT }
     requires threads { AscendInTwo thread_key threads.now }
     ensures { IsTrue result ↔ AreLivingServed (processes_of procs.now) (threads_of threads.now) }
 {
@@ -183,7 +184,7 @@ pub fn are_living_served(procs: &[ProcRow], threads: &[ThreadRow]) -> bool
 /// Part 6, of the processes and threads: a living process has a tid 1 that is Ready or Idle, and a
 /// thread above, no other thread is Idle, and every pc is the address of an instruction.
 pub fn are_threads_matched(procs: &[ProcRow], threads: &[ThreadRow]) -> bool
-    requires few { length procs.now ≤ 64 }
+    requires few { length procs.now ≤ PROCESS_LIMIT }
     requires threads { AscendInTwo thread_key threads.now }
     ensures { IsTrue result ↔ AreThreadsMatched (processes_of procs.now) (threads_of threads.now) }
 {

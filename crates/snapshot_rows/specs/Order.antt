@@ -6,6 +6,7 @@ use Rattle.snapshot_rows.specs.declared.state.ServerRow.{ServerRow}
 use Rattle.snapshot_rows.specs.declared.state.ClaimRow.{ClaimRow}
 use Rattle.snapshot_rows.specs.declared.state.PageRow.{PageRow}
 use Rattle.snapshot_rows.specs.declared.state.OrphanRow.{OrphanRow}
+use Rattle.xk_base.specs.declared.limits.TheConstants.{PROCESS_LIMIT}
 
 -- ---- keys
 
@@ -58,7 +59,7 @@ AscendInTwo key rows =
 -- the rows of a state stand in order of their keys, and there are as many processes as it says
 pub record AreRowsInOrder (s : State) : Type 0 where
   pub procs : length s.procs ≡ s.n
-  pub few : s.n ≤ 64
+  pub few : s.n ≤ PROCESS_LIMIT
   pub threads : AscendInTwo thread_key s.threads
   pub servers : Ascend server_key s.servers
   pub claims : Ascend claim_key s.claims

@@ -13,7 +13,7 @@ use Rattle.snapshot_rows.specs.declared.state.OrphanRow.{OrphanRow}
 use Rattle.suspend_image.specs.Reading.{greatest}
 use Rattle.snapshot_rows.specs.Order.{AreInOrder, after, least_first, least_second, thread_key, server_key, claim_key, page_key, orphan_key}
 use Rattle.suspend_image.specs.Spelling.{page_bytes, orphan_bytes, rows_bytes, state_bytes}
-use Rattle.xk_base.specs.declared.limits.TheConstants.{STEP_LIMIT}
+use Rattle.xk_base.specs.declared.limits.TheConstants.{PROCESS_LIMIT, STEP_LIMIT}
 
 -- ---- numbers
 
@@ -124,7 +124,7 @@ ArePlaced form key spell left before (x ∷ xs) =
 
 pub record HasForm (file : List ℕ) (s : State) : Type 0 where
   pub cap : IsWord s.cap
-  pub n : IsWithin 1 64 s.n
+  pub n : IsWithin 1 PROCESS_LIMIT s.n
   pub steps : IsWithin 0 STEP_LIMIT s.steps
   pub cursor_pid : IsPid s.n s.cursor_pid
   pub cursor_tid : IsTid s.cursor_tid

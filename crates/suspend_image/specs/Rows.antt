@@ -14,7 +14,7 @@ use Rattle.snapshot_rows.specs.declared.state.PageRow.{PageRow}
 use Rattle.snapshot_rows.specs.declared.state.OrphanRow.{OrphanRow}
 use Rattle.suspend_image.specs.Reading.{Found, ◌>>=◌, greatest, word_at, word_in, word_if, four_at, items_at}
 use Rattle.snapshot_rows.specs.Order.{after, least_first, least_second}
-use Rattle.xk_base.specs.declared.limits.TheConstants.{STEP_LIMIT}
+use Rattle.xk_base.specs.declared.limits.TheConstants.{PROCESS_LIMIT, STEP_LIMIT}
 
 -- ---- 1. the machine
 
@@ -22,7 +22,7 @@ use Rattle.xk_base.specs.declared.limits.TheConstants.{STEP_LIMIT}
 unfoldable pub numbers_at : List ℕ → Found Numbers
 numbers_at bytes = do
   cap ← word_at bytes
-  n ← word_in 1 64 cap.1
+  n ← word_in 1 PROCESS_LIMIT cap.1
   steps ← word_in 0 STEP_LIMIT n.1
   pid ← word_in 2 (n.0 + 1) steps.1
   tid ← word_in 1 31 pid.1

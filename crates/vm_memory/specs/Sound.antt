@@ -10,6 +10,7 @@ use Rattle.sv32_space.specs.Tie.{agrees}
 use Rattle.vm_memory.specs.declared.memory.Memory.{Memory}
 use Rattle.vm_memory.specs.Bytes.{used_frames, used_slots}
 use Rattle.vm_memory.specs.Memory.{processes, capacity_of, frames_for_pages, blank_ledger, IsUsable}
+use Rattle.xk_base.specs.declared.limits.TheConstants.{PROCESS_LIMIT}
 
 -- where there are more pages than stand in frames, and the frame before that at hand is free, it is the only one
 abbrev pub KnowsLastFrame : {W : Type 0} → Memory W → Type 0
@@ -22,7 +23,7 @@ pub record IsSound {W : Type 0} (slot_count : W → ℕ) (m : Memory W) : Type 0
   -- the counts are those of the owner table, and the limits hold
   pub procs : m.procs ≡ processes m
   pub slots : m.slots ≡ (extent m.owners).slots
-  pub few : processes m ≤ 64
+  pub few : processes m ≤ PROCESS_LIMIT
   pub few_slots : m.slots ≤ 16384
   pub tables : table_frames (processes m) + 2 ≤ (area m.ram).frames
   pub placed : IsPlaced (area m.ram)

@@ -3,6 +3,7 @@
 ghost use Rattle.std.specs.Prelude.{◌≡◌, ◌+◌, ◌*◌, ◌≤◌, [], ◌++◌, length, IfOk};
 ghost use Rattle.suspend_image.specs.Sheets.{SheetBytes, HasRoom, appended, with_word, room_for};
 ghost use Rattle.suspend_image.specs.Words.{word, word_bytes};
+ghost use Rattle.xk_base.specs.declared.limits.TheConstants.{PROCESS_LIMIT};
 
 use byteorder::{ByteOrder, LittleEndian};
 use std::alloc::Global;
@@ -45,7 +46,7 @@ fn write_word(bytes: &mut [u8], at: usize, w: u32)
 impl Sheet {
     /// An empty sheet with room for every state of `n` processes and at most `cap` pages.
     pub fn new(alloc: Global, n: u32, cap: u32) -> Result<Sheet, NoMemory>
-        requires processes { n ≤ 64 }
+        requires processes { n ≤ PROCESS_LIMIT }
         requires pages { cap ≤ 32768 }
         ensures { IfOk result (λ sheet. sheet ≡ record { bytes = []; room = room_for n cap }) }
     {

@@ -30,7 +30,7 @@ ghost use Rattle.vm_memory.specs.Tie.{IsTied};
 ghost use Rattle.xk_base.specs.Tables.Counting.{put_at};
 ghost use Rattle.xk_base.specs.Outside.{Rose};
 ghost use Rattle.xk_base.specs.declared.ids.Place.{Place};
-ghost use Rattle.xk_base.specs.declared.limits.TheConstants.{FRAME_LIMIT, SLOT_LIMIT};
+ghost use Rattle.xk_base.specs.declared.limits.TheConstants.{FRAME_LIMIT, PROCESS_LIMIT, SLOT_LIMIT};
 
 use crate::memory::{BootError, BootFault, Memory};
 use boot_plan::{BootPlan, PagePlan, ProcPlan};
@@ -74,7 +74,7 @@ fn empty_parts(alloc: Global, plan: &BootPlan, procs: u32) -> Result<(Ram, Owner
 
 // Makes the spaces of the processes, with all entries free.
 fn make_spaces(ram: &mut Ram, procs: u32)
-    requires few { procs ≤ 64 }
+    requires few { procs ≤ PROCESS_LIMIT }
     requires within { 21 * procs ≤ (area ram.old).frames }
     ensures made { (pid : ℕ) → is_pid procs pid ≡ true → IsMade ram.new pid }
     ensures free { (q : Place) → is_user_place procs q ≡ true → entries procs ram.new q ≡ Some Free }
@@ -89,7 +89,7 @@ impl<W: SwapStore> Memory<W> {
     // A memory without a page.
     fn without_pages(alloc: Global, plan: &BootPlan, store: W) -> Result<Memory<W>, BootFault<W>>
         requires some { 1 ≤ length plan.now.procs }
-        requires few { length plan.now.procs ≤ 64 }
+        requires few { length plan.now.procs ≤ PROCESS_LIMIT }
         requires tables { table_frames (length plan.now.procs) + 2 ≤ plan.now.frames }
         requires frames { plan.now.frames ≤ FRAME_LIMIT }
         requires start { plan.now.ram_start % 4096 ≡ 0 }

@@ -20,7 +20,7 @@ ghost use Rattle.xk_base.specs.Outside.{Rose};
 ghost use Rattle.xk_base.specs.Tables.Circle.{IsPid};
 ghost use Rattle.xk_base.specs.declared.ids.ThreadId.{ThreadId as Id};
 ghost use Rattle.xk_base.specs.declared.ids.Tid.{Tid as TidNumber};
-ghost use Rattle.xk_base.specs.declared.limits.TheConstants.{RECORD_LIMIT, SERVER_LIMIT};
+ghost use Rattle.xk_base.specs.declared.limits.TheConstants.{PROCESS_LIMIT, RECORD_LIMIT, SERVER_LIMIT};
 ghost use Rattle.xk_kernel.specs.Knowing.{ComesTo};
 ghost use Rattle.xk_kernel.specs.Sound.{IsSound, IsUsable};
 ghost use Rattle.xk_kernel.specs.Start.{first_threads, start, threads_at_start};
@@ -71,7 +71,7 @@ fn start_process(threads: &mut Threads, pid: Pid, entry: u32)
 
 // Starts the threads of all processes of a plan, where there is none yet.
 fn start_processes(threads: &mut Threads, plan: &BootPlan)
-    requires few { length plan.now.procs ≤ 64 }
+    requires few { length plan.now.procs ≤ PROCESS_LIMIT }
     requires count { process_count threads.old ≡ length plan.now.procs }
     requires empty { threads_of threads.old ≡ no_threads }
     ensures after { (id : Id) → option_map thread_of (threads_of threads.new id) ≡ threads_at_start plan.now id }
@@ -85,7 +85,7 @@ fn start_processes(threads: &mut Threads, plan: &BootPlan)
 
 // The tables of a kernel at its start.
 fn tables(alloc: Global, plan: &BootPlan) -> Result<Tables, NoMemory>
-    requires few { length plan.now.procs ≤ 64 }
+    requires few { length plan.now.procs ≤ PROCESS_LIMIT }
     ensures threads { IfOk result (λ t. (id : Id) → option_map thread_of (threads_of t.0 id) ≡ threads_at_start plan.now id) }
     ensures threaded { IfOk result (λ t. process_count t.0 ≡ length plan.now.procs) }
     ensures procs { IfOk result (λ t. processes_of t.1 ≡ new_processes (length plan.now.procs)) }
