@@ -3,6 +3,7 @@ use Rattle.std.specs.Prelude.{◌≡◌, ℕ, ◌≤◌, ◌<◌, nat_le, nat_lt
 use Rattle.server_table.specs.ServerState.{Server, ServerState}
 use Rattle.server_table.specs.declared.table.ServerSeat.{ServerSeat}
 use Rattle.save_path.specs.declared.servers.Seated.{Seated}
+use Rattle.xk_base.specs.declared.limits.TheConstants.{SERVER_LIMIT}
 
 -- the server as its serial finds it
 abbrev pub table_server : Seated → Server
@@ -24,7 +25,7 @@ pub record IsNext (servers : ServerState) (from : ℕ) (s : Seated) : Type 0 whe
   pub live : servers.live s.server.serial.0 ≡ Some (table_server s)
   pub behind : from ≤ s.server.serial.0
   pub least : (n : ℕ) → from ≤ n → n < s.server.serial.0 → servers.live n ≡ None
-  pub seat : s.seat < 64
+  pub seat : s.seat < SERVER_LIMIT
 
 -- .. or none, where there is none from there on
 abbrev pub IsNextServer : ServerState → ℕ → Option Seated → Type 0

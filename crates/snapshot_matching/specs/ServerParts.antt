@@ -6,6 +6,7 @@ use Rattle.snapshot_rows.specs.declared.state.MessageRow.{MessageRow}
 use Rattle.snapshot_rows.specs.declared.state.ProcRow.{ProcRow}
 use Rattle.snapshot_rows.specs.declared.state.ServerRow.{ServerRow}
 use Rattle.snapshot_rows.specs.Machines.{processes_of}
+use Rattle.xk_base.specs.declared.limits.TheConstants.{SERVER_LIMIT}
 
 -- a server of a living process
 abbrev pub is_server_living : List ProcRow → ServerRow → Bool
@@ -66,7 +67,7 @@ message_keys s = map message_key s.queued ++ map message_key s.held
 -- there are few servers, with slots for their messages, of living processes, and no two have one identifier
 abbrev pub are_few_apart : List ProcRow → List ServerRow → Bool
 are_few_apart procs rows =
-    nat_le (length rows) 64
+    nat_le (length rows) SERVER_LIMIT
     && (list_all has_slots rows && (list_all (is_server_living procs) rows && list_all (λ s. list_all (is_apart s) rows) rows))
 
 -- ---- senders
