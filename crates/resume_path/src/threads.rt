@@ -10,7 +10,7 @@ ghost use Rattle.thread_table.specs.Shown.{process_count, threads_of};
 ghost use Rattle.xk_base.specs.Tables.Circle.{same_thread};
 ghost use Rattle.xk_base.specs.declared.ids.ThreadId.{ThreadId as Id};
 ghost use Rattle.resume_path.specs.Resumable.{CanResume};
-ghost use Rattle.xk_base.specs.declared.limits.TheConstants.{PROCESS_LIMIT};
+ghost use Rattle.xk_base.specs.declared.limits.TheConstants.{PROCESS_LIMIT, TID_LIMIT};
 
 use std::alloc::Global;
 use suspend_image::{State, ThreadRow};
@@ -19,7 +19,7 @@ use xk_base::{NoMemory, Number, Pid, Regs, Serial, ThreadId, Tid};
 
 // What a thread of the state is about.
 fn thread_state(row: &ThreadRow) -> ThreadState
-    requires tid { row.now.state ≡ 3 → row.now.waits ≤ 31 }
+    requires tid { row.now.state ≡ 3 → row.now.waits ≤ TID_LIMIT }
     ensures { state_of result ≡ row_state row.now.state row.now.waits }
 {
     match row.state {

@@ -13,7 +13,7 @@ use Rattle.snapshot_rows.specs.declared.state.OrphanRow.{OrphanRow}
 use Rattle.suspend_image.specs.Reading.{greatest}
 use Rattle.snapshot_rows.specs.Order.{AreInOrder, after, least_first, least_second, thread_key, server_key, claim_key, page_key, orphan_key}
 use Rattle.suspend_image.specs.Spelling.{page_bytes, orphan_bytes, rows_bytes, state_bytes}
-use Rattle.xk_base.specs.declared.limits.TheConstants.{PROCESS_LIMIT, STEP_LIMIT}
+use Rattle.xk_base.specs.declared.limits.TheConstants.{PROCESS_LIMIT, STEP_LIMIT, TID_LIMIT}
 
 -- ---- numbers
 
@@ -28,7 +28,7 @@ abbrev pub IsPid : ℕ → ℕ → Type 0
 IsPid n pid = IsWithin 2 (n + 1) pid
 
 abbrev pub IsTid : ℕ → Type 0
-IsTid tid = IsWithin 1 31 tid
+IsTid tid = IsWithin 1 TID_LIMIT tid
 
 abbrev pub IsFlag : ℕ → Type 0
 IsFlag flag = IsWithin 0 1 flag
@@ -49,11 +49,11 @@ pub record IsProcRow (p : ProcRow) : Type 0 where
 -- The least and the greatest that it may wait for: nothing where it is Ready or Idle, a tid where it is Joining, and else any serial
 -- or number.
 abbrev pub waits_bounds : ℕ → ℕ × ℕ
-waits_bounds state = if state == 0 || state == 4 then (0, 0) else (if state == 3 then (1, 31) else (0, greatest))
+waits_bounds state = if state == 0 || state == 4 then (0, 0) else (if state == 3 then (1, TID_LIMIT) else (0, greatest))
 
 pub record IsThreadRow (n : ℕ) (before : Option (ℕ × ℕ)) (t : ThreadRow) : Type 0 where
   pub pid : IsWithin (least_first 2 before) (n + 1) t.pid
-  pub tid : IsWithin (least_second 1 before t.pid) 31 t.tid
+  pub tid : IsWithin (least_second 1 before t.pid) TID_LIMIT t.tid
   pub pc : IsWord t.pc
   pub state : IsWithin 0 4 t.state
   pub waits : IsWithin (waits_bounds t.state).0 (waits_bounds t.state).1 t.waits
@@ -64,7 +64,7 @@ pub record IsThreadRow (n : ℕ) (before : Option (ℕ × ℕ)) (t : ThreadRow) 
 pub record IsMessageRow (n : ℕ) (m : MessageRow) : Type 0 where
   pub number : IsWord m.number
   pub sender_pid : IsField (not (m.sender_pid == 0)) 2 (n + 1) m.sender_pid
-  pub sender_tid : IsField (not (m.sender_pid == 0)) 1 31 m.sender_tid
+  pub sender_tid : IsField (not (m.sender_pid == 0)) 1 TID_LIMIT m.sender_tid
   pub kind : IsWithin 1 5 m.kind
   pub id : IsWord m.id
   pub four : length m.words ≡ 4
@@ -134,7 +134,7 @@ pub record HasForm (file : List ℕ) (s : State) : Type 0 where
   pub compare : IsField (s.armed == 1) 0 greatest s.compare
   pub reserved : IsFlag s.reserved
   pub reserved_pid : IsField (s.reserved == 1) 2 (s.n + 1) s.reserved_pid
-  pub reserved_tid : IsField (s.reserved == 1) 1 31 s.reserved_tid
+  pub reserved_tid : IsField (s.reserved == 1) 1 TID_LIMIT s.reserved_tid
   pub reserved_address : IsField (s.reserved == 1) 0 greatest s.reserved_address
   pub many_procs : length s.procs ≡ s.n
   pub procs : AllByRecursion IsProcRow s.procs

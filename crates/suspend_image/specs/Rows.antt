@@ -14,7 +14,7 @@ use Rattle.snapshot_rows.specs.declared.state.PageRow.{PageRow}
 use Rattle.snapshot_rows.specs.declared.state.OrphanRow.{OrphanRow}
 use Rattle.suspend_image.specs.Reading.{Found, ◌>>=◌, greatest, word_at, word_in, word_if, four_at, items_at}
 use Rattle.snapshot_rows.specs.Order.{after, least_first, least_second}
-use Rattle.xk_base.specs.declared.limits.TheConstants.{PROCESS_LIMIT, STEP_LIMIT}
+use Rattle.xk_base.specs.declared.limits.TheConstants.{PROCESS_LIMIT, STEP_LIMIT, TID_LIMIT}
 
 -- ---- 1. the machine
 
@@ -25,7 +25,7 @@ numbers_at bytes = do
   n ← word_in 1 PROCESS_LIMIT cap.1
   steps ← word_in 0 STEP_LIMIT n.1
   pid ← word_in 2 (n.0 + 1) steps.1
-  tid ← word_in 1 31 pid.1
+  tid ← word_in 1 TID_LIMIT pid.1
   number ← word_at tid.1
   serial ← word_at number.1
   Ok (
@@ -51,7 +51,7 @@ unfoldable pub reserved_at : ℕ → List ℕ → Found Reserved
 reserved_at n bytes = do
   reserved ← word_in 0 1 bytes
   pid ← word_if (reserved.0 == 1) 2 (n + 1) reserved.1
-  tid ← word_if (reserved.0 == 1) 1 31 pid.1
+  tid ← word_if (reserved.0 == 1) 1 TID_LIMIT pid.1
   address ← word_if (reserved.0 == 1) 0 greatest tid.1
   Ok (record { reserved = reserved.0; pid = pid.0; tid = tid.0; address = address.0 }, address.1)
 
@@ -70,12 +70,12 @@ proc_at bytes = do
 -- what it waits for: 0 where it is Ready or Idle, a tid where it is Joining, and else any serial or number
 unfoldable pub waits_at : ℕ → List ℕ → Found ℕ
 waits_at state bytes =
-    if state == 0 || state == 4 then word_in 0 0 bytes else (if state == 3 then word_in 1 31 bytes else word_at bytes)
+    if state == 0 || state == 4 then word_in 0 0 bytes else (if state == 3 then word_in 1 TID_LIMIT bytes else word_at bytes)
 
 unfoldable pub thread_at : ℕ → Option (ℕ × ℕ) → List ℕ → Found ThreadRow
 thread_at n before bytes = do
   pid ← word_in (least_first 2 before) (n + 1) bytes
-  tid ← word_in (least_second 1 before pid.0) 31 pid.1
+  tid ← word_in (least_second 1 before pid.0) TID_LIMIT pid.1
   pc ← word_at tid.1
   state ← word_in 0 4 pc.1
   waits ← waits_at state.0 state.1
@@ -95,7 +95,7 @@ unfoldable pub message_at : ℕ → List ℕ → Found MessageRow
 message_at n bytes = do
   number ← word_at bytes
   pid ← sender_pid_at n number.1
-  tid ← word_if (not (pid.0 == 0)) 1 31 pid.1
+  tid ← word_if (not (pid.0 == 0)) 1 TID_LIMIT pid.1
   kind ← word_in 1 5 tid.1
   id ← word_at kind.1
   words ← four_at id.1

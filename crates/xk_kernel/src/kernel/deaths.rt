@@ -88,12 +88,12 @@ impl<W: SwapStore> Kernel<W> {
     fn answer_joiners(&mut self, who: ThreadId, a0: u32)
         requires whole { IsWhole W.SwapStore self.old }
         requires pid { IsTrue (is_pid (processes self.old.mem) who.pid.0) }
-        requires room { length self.old.log.records + 31 ≤ self.old.log.room }
+        requires room { length self.old.log.records + TID_LIMIT ≤ self.old.log.room }
         ensures whole { IsWhole W.SwapStore self.new }
         ensures tells { let m = machine_of W.held self.old in
             Tells W.held self.old self.new (settled (answering (joiners_answered m who a0) m)) }
         ensures mem { self.new.mem ≡ self.old.mem }
-        ensures few { length self.new.log.records ≤ length self.old.log.records + 31 }
+        ensures few { length self.new.log.records ≤ length self.old.log.records + TID_LIMIT }
     {
         for k in 0..TID_LIMIT {
             let id = ThreadId {
