@@ -8,7 +8,7 @@ ghost use Rattle.order_model.specs.Turns.{is_ready_in};
 ghost use Rattle.xk_base.specs.Tables.Circle.{id_at, thread_ids};
 ghost use Rattle.xk_base.specs.declared.limits.TheConstants.{PROCESS_LIMIT, TIMER_INTERRUPT};
 
-use snapshot_rows::{ClaimRow, State, ThreadRow};
+use snapshot_rows::{ClaimRow, READY, State, ThreadRow};
 use std::alloc::{AllocError, Global};
 use thread_table::id_at;
 use xk_base::ThreadId;
@@ -33,7 +33,7 @@ fn is_ready(threads: &[ThreadRow], who: ThreadId) -> bool
     ensures { result ≡ is_ready_in threads.now who }
 {
     match row_of(threads, who) {
-        Some(row) => row.state == 0,
+        Some(row) => row.state == READY,
         None => false,
     }
 }

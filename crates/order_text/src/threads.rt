@@ -11,8 +11,8 @@ ghost use Rattle.xk_base.specs.Tables.Circle.{id_at, listed_ids, thread_ids};
 ghost use Rattle.xk_base.specs.declared.limits.TheConstants.{PROCESS_LIMIT};
 
 use crate::text::put;
-use crate::waits::{IDLE, put_about, put_thread};
-use snapshot_rows::{State, ThreadRow};
+use crate::waits::{put_about, put_thread};
+use snapshot_rows::{IDLE, State, ThreadRow};
 use std::alloc::{AllocError, Global};
 use thread_table::id_at;
 use xk_base::limits::TID_LIMIT;

@@ -11,19 +11,8 @@ ghost use Rattle.snapshot_rows.specs.Machines.{machine_of, servers_of, thread_at
 
 use crate::names::put_name;
 use crate::text::{put, put_number};
-use snapshot_rows::{MessageRow, ServerRow, State, ThreadRow};
+use snapshot_rows::{JOINING, MessageRow, READY, RECEIVING, ServerRow, State, ThreadRow, WAITING};
 use std::alloc::AllocError;
-
-/// The states of a thread, by their numbers in its row.
-const READY: u32 = 0;
-
-const RECEIVING: u32 = 1;
-
-const WAITING: u32 = 2;
-
-const JOINING: u32 = 3;
-
-pub const IDLE: u32 = 4;
 
 /// Appends the process of a thread and its number there.
 pub fn put_thread(text: &mut Vec<u8>, pid: u32, tid: u32) -> Result<(), AllocError>

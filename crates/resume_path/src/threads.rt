@@ -12,6 +12,7 @@ ghost use Rattle.xk_base.specs.declared.ids.ThreadId.{ThreadId as Id};
 ghost use Rattle.resume_path.specs.Resumable.{CanResume};
 ghost use Rattle.xk_base.specs.declared.limits.TheConstants.{PROCESS_LIMIT, TID_LIMIT};
 
+use snapshot_rows::{JOINING, READY, RECEIVING, WAITING};
 use std::alloc::Global;
 use suspend_image::{State, ThreadRow};
 use thread_table::{Thread, ThreadState, Threads};
@@ -19,14 +20,14 @@ use xk_base::{NoMemory, Number, Pid, Regs, Serial, ThreadId, Tid};
 
 // What a thread of the state is about.
 fn thread_state(row: &ThreadRow) -> ThreadState
-    requires tid { row.now.state ≡ 3 → row.now.waits ≤ TID_LIMIT }
+    requires tid { row.now.state ≡ JOINING → row.now.waits ≤ TID_LIMIT }
     ensures { state_of result ≡ row_state row.now.state row.now.waits }
 {
     match row.state {
-        0 => ThreadState::Ready,
-        1 => ThreadState::Receiving(Serial(row.waits)),
-        2 => ThreadState::Waiting(Number(row.waits)),
-        3 => ThreadState::Joining(Tid(row.waits as u8)),
+        READY => ThreadState::Ready,
+        RECEIVING => ThreadState::Receiving(Serial(row.waits)),
+        WAITING => ThreadState::Waiting(Number(row.waits)),
+        JOINING => ThreadState::Joining(Tid(row.waits as u8)),
         _ => ThreadState::Idle,
     }
 }

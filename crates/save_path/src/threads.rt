@@ -12,6 +12,7 @@ ghost use Rattle.suspend_image.specs.Reading.{greatest};
 ghost use Rattle.suspend_image.specs.SavedRows.{state_number, state_waits, thread_row};
 ghost use Rattle.save_path.specs.Written.{Appends, Fits};
 
+use snapshot_rows::{IDLE, JOINING, READY, RECEIVING, WAITING};
 use suspend_image::{Sheet, ThreadRow, write_thread};
 use thread_table::{Thread, ThreadState, Threads, id_at};
 use xk_base::limits::TID_LIMIT;
@@ -25,11 +26,11 @@ fn state_number(state: ThreadState) -> u32
     ensures { result ≡ state_number (state_of state) }
 {
     match state {
-        ThreadState::Ready => 0,
-        ThreadState::Receiving(_) => 1,
-        ThreadState::Waiting(_) => 2,
-        ThreadState::Joining(_) => 3,
-        ThreadState::Idle => 4,
+        ThreadState::Ready => READY,
+        ThreadState::Receiving(_) => RECEIVING,
+        ThreadState::Waiting(_) => WAITING,
+        ThreadState::Joining(_) => JOINING,
+        ThreadState::Idle => IDLE,
     }
 }
 

@@ -10,11 +10,12 @@ use Rattle.snapshot_rows.specs.declared.state.ProcRow.{ProcRow}
 use Rattle.snapshot_rows.specs.declared.state.ThreadRow.{ThreadRow}
 use Rattle.snapshot_rows.specs.declared.state.ServerRow.{ServerRow}
 use Rattle.snapshot_rows.specs.Machines.{thread_at_id, processes_of}
+use Rattle.snapshot_rows.specs.declared.states.TheConstants.{READY, RECEIVING, JOINING, IDLE}
 
 -- it isn't Joining, or waits for another thread of its process, above tid 1
 abbrev pub joins_another : List ThreadRow → ThreadRow → Bool
 joins_another rows t =
-    not (t.state == 3)
+    not (t.state == JOINING)
     || (not (t.waits == t.tid) && (nat_le 2 t.waits && list_any (λ other. other.pid == t.pid && other.tid == t.waits) rows))
 
 -- the server that a thread waits at: of its process, with an empty queue
@@ -23,7 +24,7 @@ is_awaited t s = s.serial == t.waits && (s.pid == t.pid && length s.queued == 0)
 
 -- it isn't Receiving, or waits at such a server
 abbrev pub awaits_server : List ServerRow → ThreadRow → Bool
-awaits_server servers t = not (t.state == 1) || list_any (is_awaited t) servers
+awaits_server servers t = not (t.state == RECEIVING) || list_any (is_awaited t) servers
 
 -- a thread of an id that there may be, and of a living process
 abbrev pub is_thread_living : ℕ → List ProcRow → ThreadRow → Bool
@@ -31,7 +32,7 @@ is_thread_living n procs t = is_thread_id n (thread_at_id t.pid t.tid) && (proce
 
 -- its pc is the address of an instruction, and only tid 1 of a living process is Idle
 abbrev pub is_thread_right : List ProcRow → ThreadRow → Bool
-is_thread_right procs t = t.pc % 4 == 0 && (nat_lt t.state 4 || (t.tid == 1 && (processes_of procs t.pid).alive))
+is_thread_right procs t = t.pc % 4 == 0 && (nat_lt t.state IDLE || (t.tid == 1 && (processes_of procs t.pid).alive))
 
 -- every pc is the address of an instruction, and only tid 1 of a living process is Idle: part 6 of threads, each for itself
 pub record AreThreadsRight (process : ℕ → Process) (threads : ThreadId → Option Thread) : Type 0 where
@@ -41,7 +42,7 @@ pub record AreThreadsRight (process : ℕ → Process) (threads : ThreadId → O
 -- the process has a tid 1 that is Ready or Idle, and a thread above
 abbrev pub has_threads : List ThreadRow → ℕ → Bool
 has_threads rows pid =
-    list_any (λ t. (t.pid == pid && t.tid == 1) && (t.state == 0 || not (nat_lt t.state 4))) rows
+    list_any (λ t. (t.pid == pid && t.tid == 1) && (t.state == READY || not (nat_lt t.state IDLE))) rows
     && list_any (λ t. t.pid == pid && nat_le 2 t.tid) rows
 
 -- .. where it is alive

@@ -5,6 +5,7 @@ use Rattle.snapshot_rows.specs.declared.state.MessageRow.{MessageRow}
 use Rattle.snapshot_rows.specs.declared.state.ServerRow.{ServerRow}
 use Rattle.snapshot_rows.specs.declared.state.ThreadRow.{ThreadRow}
 use Rattle.snapshot_matching.specs.declared.waits.Wait.{Wait}
+use Rattle.snapshot_rows.specs.declared.states.TheConstants.{WAITING}
 
 -- the sender of a message, where it has one, as a list of at most one
 abbrev pub message_wait : MessageRow → List Wait
@@ -16,7 +17,7 @@ waits_of s = flat_map message_wait s.queued ++ flat_map message_wait s.held
 
 -- a thread, where it is Waiting
 abbrev pub thread_wait : ThreadRow → List Wait
-thread_wait t = if t.state == 2 then (record { pid = t.pid; tid = t.tid; number = t.waits }) ∷ [] else []
+thread_wait t = if t.state == WAITING then (record { pid = t.pid; tid = t.tid; number = t.waits }) ∷ [] else []
 
 -- it is a wait of the thread of this pid and tid
 abbrev pub is_wait_at : ℕ × ℕ → Wait → Bool

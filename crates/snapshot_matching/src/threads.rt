@@ -12,17 +12,8 @@ ghost use Rattle.snapshot_matching.specs.ThreadParts.{is_thread_living as is_thr
 ghost use Rattle.snapshot_matching.specs.ThreadParts.{AreThreadsRight};
 ghost use Rattle.xk_base.specs.declared.limits.TheConstants.{PROCESS_LIMIT};
 
-use snapshot_rows::{ProcRow, ServerRow, ThreadRow, is_alive};
+use snapshot_rows::{IDLE, JOINING, ProcRow, READY, RECEIVING, ServerRow, ThreadRow, is_alive};
 use xk_base::limits::TID_LIMIT;
-
-/// The number of the state Receiving.
-const RECEIVING: u32 = 1;
-
-/// The number of the state Joining.
-const JOINING: u32 = 3;
-
-/// The number of the state Idle.
-const IDLE: u32 = 4;
 
 /// Whether it is the server that a thread waits at: of its process, with an empty queue.
 fn is_awaited(thread: &ThreadRow, server: &ServerRow) -> bool
@@ -149,9 +140,9 @@ fn has_threads(threads: &[ThreadRow], pid: u32) -> bool
 }
 
 fn has_handler_thread(threads: &[ThreadRow], pid: u32) -> bool
-    ensures { result ≡ list_any (λ t. (t.pid == pid && t.tid == 1) && (t.state == 0 || not (nat_lt t.state 4))) threads.now }
+    ensures { result ≡ list_any (λ t. (t.pid == pid && t.tid == 1) && (t.state == READY || not (nat_lt t.state IDLE))) threads.now }
 {
-    threads.iter().any(|t| t.pid == pid && t.tid == 1 && (t.state == 0 || IDLE <= t.state))
+    threads.iter().any(|t| t.pid == pid && t.tid == 1 && (t.state == READY || IDLE <= t.state))
 }
 
 fn has_thread_above(threads: &[ThreadRow], pid: u32) -> bool

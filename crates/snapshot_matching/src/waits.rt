@@ -5,12 +5,9 @@ ghost use Rattle.std.specs.Prelude.{◌≡◌, ◌≤◌, ◌++◌, [], ◌∷�
 ghost use Rattle.std.specs.List.{flat_map, count_by};
 ghost use Rattle.snapshot_matching.specs.WaitParts.{message_wait, waits_of, thread_wait, is_wait_at, HaveSameWaits, AreAlikeWaits};
 
-use snapshot_rows::{MessageRow, ServerRow, ThreadRow};
+use snapshot_rows::{MessageRow, ServerRow, ThreadRow, WAITING};
 use std::alloc::Global;
 use xk_base::NoMemory;
-
-/// The number of the state Waiting.
-const WAITING: u32 = 2;
 
 /// A thread, and the number of the message whose answer it waits for.
 #[derive(Clone, Copy, Debug, PartialEq, Eq)]

@@ -21,6 +21,7 @@ use Rattle.snapshot_rows.specs.declared.state.ServerRow.{ServerRow}
 use Rattle.snapshot_rows.specs.declared.state.ClaimRow.{ClaimRow}
 use Rattle.snapshot_rows.specs.declared.state.PageRow.{PageRow}
 use Rattle.snapshot_rows.specs.declared.state.OrphanRow.{OrphanRow}
+use Rattle.snapshot_rows.specs.declared.states.TheConstants.{READY, RECEIVING, WAITING, JOINING}
 
 -- a thread, and a place, of these numbers
 abbrev pub thread_at_id : ℕ → ℕ → ThreadId
@@ -44,10 +45,10 @@ processes_of rows pid = process_of (if nat_lt pid 2 then no_process else get_or 
 
 abbrev pub thread_state : ℕ → ℕ → ThreadState
 thread_state state waits =
-    if state == 0 then Ready else (
-    if state == 1 then Receiving (record { 0 = waits }) else (
-    if state == 2 then Waiting (record { 0 = waits }) else (
-    if state == 3 then Joining (record { 0 = waits }) else Idle)))
+    if state == READY then Ready else (
+    if state == RECEIVING then Receiving (record { 0 = waits }) else (
+    if state == WAITING then Waiting (record { 0 = waits }) else (
+    if state == JOINING then Joining (record { 0 = waits }) else Idle)))
 
 -- register x0 is 0
 abbrev pub thread_of : ThreadRow → Thread

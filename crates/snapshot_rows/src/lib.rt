@@ -12,6 +12,7 @@ mod processes;
 mod runs;
 mod search;
 mod state;
+mod states;
 
 pub use ledger::is_ledger_matched;
 pub use living::all_homes_living;
@@ -19,3 +20,4 @@ pub use order::are_different;
 pub use processes::is_alive;
 pub use runs::{Run, are_numbers_apart, loan_runs, orphan_runs};
 pub use state::{ClaimRow, MessageRow, OrphanRow, PageRow, ProcRow, ServerRow, State, ThreadRow};
+pub use states::{IDLE, JOINING, READY, RECEIVING, WAITING};

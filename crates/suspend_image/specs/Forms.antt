@@ -14,6 +14,7 @@ use Rattle.suspend_image.specs.Reading.{greatest}
 use Rattle.snapshot_rows.specs.Order.{AreInOrder, after, least_first, least_second, thread_key, server_key, claim_key, page_key, orphan_key}
 use Rattle.suspend_image.specs.Spelling.{page_bytes, orphan_bytes, rows_bytes, state_bytes}
 use Rattle.xk_base.specs.declared.limits.TheConstants.{PROCESS_LIMIT, STEP_LIMIT, TID_LIMIT}
+use Rattle.snapshot_rows.specs.declared.states.TheConstants.{READY, JOINING, IDLE}
 
 -- ---- numbers
 
@@ -49,13 +50,13 @@ pub record IsProcRow (p : ProcRow) : Type 0 where
 -- The least and the greatest that it may wait for: nothing where it is Ready or Idle, a tid where it is Joining, and else any serial
 -- or number.
 abbrev pub waits_bounds : ℕ → ℕ × ℕ
-waits_bounds state = if state == 0 || state == 4 then (0, 0) else (if state == 3 then (1, TID_LIMIT) else (0, greatest))
+waits_bounds state = if state == READY || state == IDLE then (0, 0) else (if state == JOINING then (1, TID_LIMIT) else (0, greatest))
 
 pub record IsThreadRow (n : ℕ) (before : Option (ℕ × ℕ)) (t : ThreadRow) : Type 0 where
   pub pid : IsWithin (least_first 2 before) (n + 1) t.pid
   pub tid : IsWithin (least_second 1 before t.pid) TID_LIMIT t.tid
   pub pc : IsWord t.pc
-  pub state : IsWithin 0 4 t.state
+  pub state : IsWithin 0 IDLE t.state
   pub waits : IsWithin (waits_bounds t.state).0 (waits_bounds t.state).1 t.waits
   pub registers : length t.regs ≡ 31
   pub regs : AllByRecursion IsWord t.regs

@@ -15,6 +15,7 @@ use Rattle.snapshot_rows.specs.declared.state.OrphanRow.{OrphanRow}
 use Rattle.suspend_image.specs.Reading.{Found, ◌>>=◌, greatest, word_at, word_in, word_if, four_at, items_at}
 use Rattle.snapshot_rows.specs.Order.{after, least_first, least_second}
 use Rattle.xk_base.specs.declared.limits.TheConstants.{PROCESS_LIMIT, STEP_LIMIT, TID_LIMIT}
+use Rattle.snapshot_rows.specs.declared.states.TheConstants.{READY, JOINING, IDLE}
 
 -- ---- 1. the machine
 
@@ -70,14 +71,14 @@ proc_at bytes = do
 -- what it waits for: 0 where it is Ready or Idle, a tid where it is Joining, and else any serial or number
 unfoldable pub waits_at : ℕ → List ℕ → Found ℕ
 waits_at state bytes =
-    if state == 0 || state == 4 then word_in 0 0 bytes else (if state == 3 then word_in 1 TID_LIMIT bytes else word_at bytes)
+    if state == READY || state == IDLE then word_in 0 0 bytes else (if state == JOINING then word_in 1 TID_LIMIT bytes else word_at bytes)
 
 unfoldable pub thread_at : ℕ → Option (ℕ × ℕ) → List ℕ → Found ThreadRow
 thread_at n before bytes = do
   pid ← word_in (least_first 2 before) (n + 1) bytes
   tid ← word_in (least_second 1 before pid.0) TID_LIMIT pid.1
   pc ← word_at tid.1
-  state ← word_in 0 4 pc.1
+  state ← word_in 0 IDLE pc.1
   waits ← waits_at state.0 state.1
   regs ← items_at word_at 31 waits.1
   Ok (record { pid = pid.0; tid = tid.0; pc = pc.0; state = state.0; waits = waits.0; regs = regs.0 }, regs.1)

@@ -19,6 +19,7 @@ use Rattle.snapshot_rows.specs.declared.state.ServerRow.{ServerRow}
 use Rattle.snapshot_rows.specs.declared.state.ClaimRow.{ClaimRow}
 use Rattle.snapshot_rows.specs.declared.state.PageRow.{PageRow}
 use Rattle.snapshot_rows.specs.declared.state.OrphanRow.{OrphanRow}
+use Rattle.snapshot_rows.specs.declared.states.TheConstants.{READY, RECEIVING, WAITING, JOINING, IDLE}
 
 -- a word that is 1 where something is so, else 0
 abbrev pub flag : Bool → ℕ
@@ -67,11 +68,11 @@ abbrev pub proc_row : Process → ProcRow
 proc_row p = record { alive = flag p.alive; heap = p.heap; serials = map (λ serial. serial.0) p.connections }
 
 abbrev pub state_number : ThreadState → ℕ
-state_number Ready = 0
-state_number (Receiving serial) = 1
-state_number (Waiting number) = 2
-state_number (Joining tid) = 3
-state_number Idle = 4
+state_number Ready = READY
+state_number (Receiving serial) = RECEIVING
+state_number (Waiting number) = WAITING
+state_number (Joining tid) = JOINING
+state_number Idle = IDLE
 
 abbrev pub state_waits : ThreadState → ℕ
 state_waits Ready = 0

@@ -7,7 +7,7 @@ ghost use Rattle.snapshot_rows.specs.Order.{thread_key};
 
 use crate::reading::broken::Broken;
 use crate::reading::words::{least_first, least_second, word, word_in};
-use snapshot_rows::ThreadRow;
+use snapshot_rows::{IDLE, JOINING, READY, ThreadRow};
 use std::alloc::Global;
 use xk_base::Row;
 use xk_base::limits::TID_LIMIT;
@@ -17,9 +17,9 @@ use xk_base::limits::TID_LIMIT;
 fn front_waits(state: u32, bytes: &[u8]) -> Result<(u32, &[u8]), Broken>
     ensures { Gives (λ x. (x.0, x.1.now)) result (waits_at state bytes.now) }
 {
-    if state == 0 || state == 4 {
+    if state == READY || state == IDLE {
         word_in(0, 0, bytes)
-    } else if state == 3 {
+    } else if state == JOINING {
         word_in(1, TID_LIMIT as u64, bytes)
     } else {
         word(bytes)
