@@ -10,6 +10,7 @@ use Rattle.xk_base.specs.declared.limits.TheConstants.{DEFAULT_STEPS}
 use Rattle.machine_laws.specs.History.{History, history}
 use Rattle.xk_kernel.specs.Start.{start}
 use Rattle.demo_load.specs.Image.{load_args, load_image}
+use Rattle.demo_load.specs.declared.TheConstants.{CLIENT_LIMIT}
 
 -- the steps of the tick at this place, counted from 0
 abbrev pub tick_at : ℕ → ℕ
@@ -25,7 +26,7 @@ load_events clients = first_events (1000 * clients)
 
 -- no tick has more than 13 steps, so that the events of 31 clients have at most so many
 abbrev pub most_steps : ℕ
-most_steps = 13 * (1000 * 31)
+most_steps = 13 * (1000 * CLIENT_LIMIT)
 
 -- the plan of the image, without slots, and the machine that it boots
 abbrev pub load_plan : ℕ → BootPlan

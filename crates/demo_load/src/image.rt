@@ -3,6 +3,7 @@
 ghost use Rattle.std.specs.Prelude.{◌≡◌, ◌+◌, ◌≤◌, [], ◌∷◌, IfOk, replicate};
 ghost use Rattle.demo_load.specs.Code.{client_code, server_code};
 ghost use Rattle.demo_load.specs.Image.{load_args, load_image, process_of_code};
+ghost use Rattle.demo_load.specs.declared.TheConstants.{CLIENT_LIMIT};
 
 use crate::code::{CLIENT_SIZE, SERVER_SIZE, append_codes};
 use kernel_args::{Args, ProcArgs, Section, write_args};
@@ -54,7 +55,7 @@ fn processes(alloc: Global, clients: u32, offset: u32) -> Result<Row<ProcArgs>, 
 
 /// The row of tags of the image.
 fn arguments(alloc: Global, clients: u32) -> Result<Args, NoMemory>
-    requires { clients ≤ 31 }
+    requires { clients ≤ CLIENT_LIMIT }
     ensures { IfOk result (λ args. args ≡ load_args clients) }
 {
     let words = 7 + 6 * (1 + clients);
@@ -72,7 +73,7 @@ fn arguments(alloc: Global, clients: u32) -> Result<Args, NoMemory>
 
 /// The image of the load of so many clients, and what its row of tags says.
 pub fn load_image(alloc: Global, clients: u32) -> Result<(Args, Row<u8>), NoMemory>
-    requires { clients ≤ 31 }
+    requires { clients ≤ CLIENT_LIMIT }
     ensures arguments { IfOk result (λ load. load.0 ≡ load_args clients) }
     ensures image { IfOk result (λ load. load.1 ≡ load_image clients) }
 {

@@ -11,3 +11,6 @@ pub use image::load_image;
 pub use laws::{load_has_no_fault, load_meets_no_limit};
 pub use playing::play_load;
 pub use totals::{Totals, demo_line};
+
+/// The most clients of a load.
+pub const CLIENT_LIMIT: u32 = 31;

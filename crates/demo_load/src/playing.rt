@@ -14,6 +14,7 @@ ghost use Rattle.demo_load.specs.Events.{load_events, most_steps, tick_at};
 ghost use Rattle.demo_load.specs.Totals.{IsWithin, totals_of};
 ghost use Rattle.event_player.specs.Rooms.{ComesFull};
 ghost use Rattle.event_player.specs.Standing.{room_in};
+ghost use Rattle.demo_load.specs.declared.TheConstants.{CLIENT_LIMIT};
 
 use crate::totals::Totals;
 use xk_kernel::{Kernel, Stepped, SwapFault};
@@ -21,7 +22,7 @@ use xk_ports::SwapStore;
 
 /// The steps of the tick at this place, counted from 0.
 fn tick_at(i: u32) -> u32
-    requires { i < 1000 * 31 }
+    requires { i < 1000 * CLIENT_LIMIT }
     ensures { result ≡ tick_at i }
 {
     1 + 7 * i % 13
@@ -72,7 +73,7 @@ pub fn play_load<W: SwapStore>(kernel: &mut Kernel<W>, clients: u32) -> Result<T
     requires usable { IsUsable kernel.old }
     requires slots { (size kernel.old.mem).slots ≡ 0 }
     requires start { (machine_of W.held kernel.old).steps ≡ 0 }
-    requires few { clients ≤ 31 }
+    requires few { clients ≤ CLIENT_LIMIT }
     ensures counted { let played = history (load_events clients) DEFAULT_STEPS (machine_of W.held kernel.old) in
         IfOk result (λ totals. totals ≡ totals_of played.records) }
     ensures sound { IsSound W.SwapStore kernel.new }

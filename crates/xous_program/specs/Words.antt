@@ -14,6 +14,7 @@ use Rattle.xous_program.specs.declared.commands.command.ResumeWords.{ResumeWords
 use Rattle.xous_program.specs.declared.commands.command.SuspendWords.{SuspendWords}
 use Rattle.event_player.specs.declared.telling.Telling.{Telling}
 use Rattle.event_player.specs.declared.telling.Telling.TheVariants.{Ledger, Run, Trace}
+use Rattle.demo_load.specs.declared.TheConstants.{CLIENT_LIMIT}
 
 -- ---- commands
 
@@ -151,7 +152,7 @@ resume_of words = None
 
 -- `N`, the clients of the load
 abbrev pub demo_of : List Word → Option ℕ
-demo_of (clients ∷ []) = number_within 1 31 (string_bytes clients)
+demo_of (clients ∷ []) = number_within 1 CLIENT_LIMIT (string_bytes clients)
 demo_of words = None
 
 abbrev pub is_word : Word → List ℕ → Bool

@@ -2,6 +2,7 @@
 
 ghost use Rattle.std.specs.Prelude.{◌≤◌, unwrap_or};
 ghost use Rattle.xk_base.specs.declared.limits.TheConstants.{SLOT_LIMIT, STEP_LIMIT};
+ghost use Rattle.demo_load.specs.declared.TheConstants.{CLIENT_LIMIT};
 
 use event_player::Telling;
 
@@ -64,7 +65,7 @@ pub struct CheckWords<'a> {
 pub struct DemoWords {
     pub clients: u32,
     ghost some: { 1 ≤ clients },
-    ghost few: { clients ≤ 31 },
+    ghost few: { clients ≤ CLIENT_LIMIT },
 }
 
 /// What the program is asked to do.

@@ -16,6 +16,7 @@ ghost use Rattle.program_status.specs.Notes.{sink_side};
 ghost use Rattle.xous_program.specs.Outcome.Starts.{Stops, room_of};
 ghost use Rattle.event_player.specs.Standing.{room_in};
 ghost use Rattle.program_status.specs.declared.status.Status.TheVariants.{Done, WriteFault};
+ghost use Rattle.demo_load.specs.declared.TheConstants.{CLIENT_LIMIT};
 
 use crate::commands::booting::start_run;
 use crate::commands::command::DemoWords;
@@ -36,7 +37,7 @@ struct PlannedLoad {
 
 /// Makes the image of the load of so many clients, and plans it.
 fn plan_load(alloc: Global, clients: u32) -> Result<PlannedLoad, NoMemory>
-    requires { clients ≤ 31 }
+    requires { clients ≤ CLIENT_LIMIT }
     ensures image { IfOk result (λ load. load.image ≡ load_image clients) }
     ensures planned { IfOk result (λ load. load.plan ≡ load_plan clients) }
     ensures lawful { IfOk result (λ load. IsLawfulPlan (length load.image) load.plan) }
@@ -53,7 +54,7 @@ fn plan_load(alloc: Global, clients: u32) -> Result<PlannedLoad, NoMemory>
 
 /// Starts the run of the load of so many clients, or says why not and hands the store back.
 fn boot_load<W: SwapStore>(alloc: Global, clients: u32, store: W) -> Result<Kernel<W>, Ended<W>>
-    requires { clients ≤ 31 }
+    requires { clients ≤ CLIENT_LIMIT }
     ensures booted { IfOk result (λ kernel. machine_of W.held kernel ≡ load_machine clients) }
     ensures sound { IfOk result (λ kernel. IsSound W.SwapStore kernel) }
     ensures usable { IfOk result (λ kernel. IsUsable kernel) }

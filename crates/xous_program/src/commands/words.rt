@@ -12,11 +12,9 @@ use crate::commands::command::{
     CheckWords, CommandWords, DemoWords, PlayWords, ResumeWords, SuspendWords,
 };
 use crate::commands::numbers::read_number;
+use demo_load::CLIENT_LIMIT;
 use event_player::Telling;
 use xk_base::limits::{DEFAULT_STEPS, SLOT_LIMIT, STEP_LIMIT};
-
-/// The most clients of a load.
-const CLIENT_LIMIT: u32 = 31;
 
 fn read_limit(word: &String) -> Option<u32>
     ensures value { result ≡ limit_of word.now }
