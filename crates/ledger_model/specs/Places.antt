@@ -46,7 +46,7 @@ is_place_in procs window p = is_pid procs p.pid.0 && in_window window p.vpn.0
 -- ascends: 4,080 pages of the Image window, then 4,096 of each of Heap, Message, Map and Stack.
 
 abbrev pub places_of_process : ℕ
-places_of_process = 20464
+places_of_process = 4080 + 4 * 4096
 
 -- the page number of a process's k-th user place
 abbrev pub page_at : ℕ → ℕ
