@@ -9,8 +9,9 @@ from collections.abc import Iterator
 
 ROOT = pathlib.Path(__file__).resolve().parents[2]
 MADE = ROOT / "tools" / "xous" / "numbers.py"
-NUMBERS = ROOT / "crates" / "xk_base" / "specs" / "Calls"
 CODEC = ROOT / "crates" / "syscall_codec"
+NUMBERS = CODEC / "specs" / "CallNumbers.antt"
+NAMES = ROOT / "crates" / "xk_base" / "specs" / "Calls"
 WORDS = {"u32": 1, "Sid": 4, "[u32; 4]": 4}  # how many words a field of a type has
 TYPES = {
     "CALLS": "int, tuple[str, tuple[tuple[str, int], ...]]",
@@ -19,7 +20,7 @@ TYPES = {
     "KINDS": "str, int",
 }
 HEAD = '''"""The numbers of calls, replies, errors and kinds of messages, and the words of each call. tools/make-lists makes this file of the
-definitions of `xk_base` and `syscall_codec`: change these, and make it anew."""
+definitions of `syscall_codec` and `xk_base`: change these, and make it anew."""
 
 '''
 
@@ -29,12 +30,12 @@ class Unread(Exception):
 
 
 def definitions(name: str) -> str:
-    return (NUMBERS / f"{name}.antt").read_text(encoding="utf-8")
+    return (NAMES / f"{name}.antt").read_text(encoding="utf-8")
 
 
 def constants() -> dict[str, int]:
     """The numbers of calls and of the first words of replies, by their names in the definitions."""
-    return {name: int(number) for name, number in re.findall(r"^(\w+) = (\d+)$", definitions("CallNumbers"), re.M)}
+    return {name: int(number) for name, number in re.findall(r"^(\w+) = (\d+)$", NUMBERS.read_text(encoding="utf-8"), re.M)}
 
 
 def cases(text: str, function: str) -> dict[str, int]:

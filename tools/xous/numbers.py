@@ -1,5 +1,5 @@
 """The numbers of calls, replies, errors and kinds of messages, and the words of each call. tools/make-lists makes this file of the
-definitions of `xk_base` and `syscall_codec`: change these, and make it anew."""
+definitions of `syscall_codec` and `xk_base`: change these, and make it anew."""
 
 # Calls by number: the name, and the fields behind the number with how many words each has.
 CALLS: dict[int, tuple[str, tuple[tuple[str, int], ...]]] = {

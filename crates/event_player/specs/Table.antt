@@ -6,9 +6,9 @@ use Rattle.ledger_model.specs.Listings.{home_places, orphan_places}
 use Rattle.machine_model.specs.State.Machine.{Machine}
 use Rattle.phys_pages.specs.declared.infos.LoanInfo.{LoanInfo}
 use Rattle.trace_text.specs.Words.{hex_text}
-use Rattle.vm_memory.specs.Pages.Here.{here_at}
-use Rattle.vm_memory.specs.declared.memory.Here.{Here}
-use Rattle.vm_memory.specs.declared.memory.Here.TheVariants.{Lent, Nothing, Own}
+use Rattle.page_views.specs.Here.{here_at}
+use Rattle.page_views.specs.declared.places.Here.{Here}
+use Rattle.page_views.specs.declared.places.Here.TheVariants.{Lent, Nothing, Own}
 use Rattle.xk_base.specs.declared.ids.Number.{Number}
 use Rattle.xk_base.specs.declared.ids.Place.{Place}
 use Rattle.xk_base.specs.declared.pages.LoanKind.{LoanKind}

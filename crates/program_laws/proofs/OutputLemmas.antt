@@ -10,8 +10,8 @@ use Rattle.ledger_model.specs.Listings.{home_places, orphan_places}
 use Rattle.ledger_model.specs.Loans.{bare, bare_contents, bare_orphan, bare_page}
 use Rattle.ledger_model.specs.Places.{first_place, listed_places}
 use Rattle.ledger_model.specs.Reach.{Role, holder_role, home_or, is_held_at, lender_of, lent_role, orphan_or_holder, role_at}
-use Rattle.vm_memory.specs.Pages.Here.{here_at, here_of, info_of_loan}
-use Rattle.vm_memory.specs.declared.memory.Here.TheVariants.{Own}
+use Rattle.page_views.specs.Here.{here_at, here_of, info_of_loan}
+use Rattle.page_views.specs.declared.places.Here.TheVariants.{Own}
 use Rattle.machine_model.specs.State.Machine.{Machine}
 use Rattle.machine_laws.specs.History.{history}
 use Rattle.noninterference_laws.specs.Inside.{Group, outside}

@@ -17,10 +17,10 @@ use Rattle.snapshot_rows.specs.declared.state.PageRow.{PageRow}
 use Rattle.save_path.specs.Written.{Fits}
 use Rattle.save_path.proofs.SheetLemmas.{fits_behind, fits_less, has_room}
 use Rattle.suspend_image.specs.Spelling.{orphan_words, page_words}
-use Rattle.vm_memory.specs.Pages.Here.{here_at, here_of, info_of_loan}
+use Rattle.page_views.specs.Here.{here_at, here_of, info_of_loan}
 use Rattle.vm_memory.specs.Using.Access.{contents_reached, reaches_bytes}
-use Rattle.vm_memory.specs.declared.memory.Here.{Here}
-use Rattle.vm_memory.specs.declared.memory.Here.TheVariants.{Lent, Own}
+use Rattle.page_views.specs.declared.places.Here.{Here}
+use Rattle.page_views.specs.declared.places.Here.TheVariants.{Lent, Own}
 use Rattle.xk_base.specs.declared.ids.Number.{Number}
 use Rattle.xk_base.specs.declared.ids.Place.{Place}
 use Rattle.xk_base.specs.declared.pages.Access.TheVariants.{Load}

@@ -1,4 +1,3 @@
-pub mod ByteWriteLemmas
 pub mod LedgerByteLemmas
 pub mod PageWriteLemmas
 pub mod SeatWriteLemmas

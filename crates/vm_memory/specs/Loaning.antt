@@ -1,4 +1,3 @@
 pub mod Lending
 pub mod Loans
-pub mod RunTests
 pub mod Sending

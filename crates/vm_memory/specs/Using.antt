@@ -1,5 +1,4 @@
 pub mod Access
-pub mod EntryAccess
 pub mod Known
 pub mod UserRest
 pub mod UserStores

@@ -4,4 +4,5 @@
 pub mod laws;
 mod memory;
 
-pub use memory::{BootError, BootFault, Here, KnownPages, KnownUser, Memory, User};
+pub use memory::{BootError, BootFault, KnownUser, Memory, User};
+pub use page_views::{Here, KnownPages};

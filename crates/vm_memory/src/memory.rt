@@ -13,11 +13,10 @@ mod removing;
 mod run_tests;
 mod user;
 
-pub use known::{KnownPages, KnownUser};
-use phys_pages::{LoanInfo, Owners, Ram};
+pub use known::KnownUser;
+use phys_pages::{Owners, Ram};
 use thiserror::Error;
 pub use user::User;
-use xk_base::{LoanKind, Number, Place, Right};
 use xk_ports::SwapStore;
 
 /// The pages of all processes, with their rights and loans. Rights stand in the entries of the
@@ -56,25 +55,6 @@ pub enum BootError {
 pub struct BootFault<W> {
     pub why: BootError,
     pub store: W,
-}
-
-/// What the ledger has at a place.
-#[derive(Clone, Copy, Debug, PartialEq, Eq)]
-pub enum Here {
-    /// It is no home, holder place or orphan's place.
-    Nothing,
-    /// The home of a page, with its right, whether it is the console, and its loan.
-    Own {
-        right: Right,
-        console: bool,
-        loan: Option<LoanInfo>,
-    },
-    /// The place of a page on loan to the process; without a lender it is an orphan.
-    Lent {
-        kind: LoanKind,
-        lender: Option<Place>,
-        number: Number,
-    },
 }
 
 #[cfg(test)]

@@ -16,7 +16,7 @@ use Rattle.xk_base.specs.Numbers.Windows.{in_window, window_at}
 use Rattle.xk_base.specs.Tables.Circle.{is_pid}
 use Rattle.xk_base.specs.declared.windows.Window.TheVariants.{Message}
 use Rattle.machine_model.specs.State.Machine.{Machine}
-use Rattle.vm_memory.specs.Pages.Here.{here_at, here_of}
+use Rattle.page_views.specs.Here.{here_at, here_of}
 use Rattle.xk_base.specs.Tables.Counting.{listed_below}
 use Rattle.xk_base.specs.declared.ids.Place.{Place}
 use Rattle.sv32_space.specs.Tie.{Held}

@@ -30,7 +30,7 @@ use Rattle.sv32_space.specs.SpelledEntries.{entries}
 use Rattle.sv32_space.specs.Tie.{Held, bytes_at}
 use Rattle.vm_memory.specs.declared.memory.Memory.{Memory}
 use Rattle.vm_memory.specs.Memory.{blank_ledger, ledger, processes}
-use Rattle.vm_memory.specs.Loaning.RunTests.{has_console}
+use Rattle.page_views.specs.RunTests.{has_console}
 use Rattle.vm_memory.specs.Sound.{IsSound}
 use Rattle.vm_memory.proofs.Changing.ChangedLemmas.{no_bytes}
 use Rattle.vm_memory.proofs.Changing.ConsoleStepLemmas.{console_told}

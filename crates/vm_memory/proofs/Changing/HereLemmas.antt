@@ -22,10 +22,10 @@ use Rattle.sv32_space.specs.EntryLedger.{SeatBytes}
 use Rattle.sv32_space.specs.SpelledEntries.{entries}
 use Rattle.sv32_space.specs.Tie.{Held, bytes_at}
 use Rattle.sv32_space.proofs.Ledgers.EntryLedgerLemmas.{names_free}
-use Rattle.vm_memory.specs.declared.memory.Here.TheVariants as here
+use Rattle.page_views.specs.declared.places.Here.TheVariants as here
 use Rattle.vm_memory.specs.declared.memory.Memory.{Memory}
-use Rattle.vm_memory.specs.Using.EntryAccess.{side_here}
-use Rattle.vm_memory.specs.Pages.Here.{here_of, here_at}
+use Rattle.page_views.specs.EntryAccess.{side_here}
+use Rattle.page_views.specs.Here.{here_of, here_at}
 use Rattle.vm_memory.specs.Memory.{processes, ledger, blank_ledger}
 use Rattle.vm_memory.specs.Sound.{IsSound}
 use Rattle.sv32_space.proofs.Agreeing.EntryRoleLemmas.{held_role, side_role, entry_role, role-entry}

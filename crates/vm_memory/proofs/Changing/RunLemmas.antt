@@ -19,10 +19,10 @@ use Rattle.ledger_model.proofs.Stepping.MakingLemmas.{make_loans}
 use Rattle.ledger_model.proofs.PlaceLemmas.{IsInRun, in_run-true, in_run-index}
 use Rattle.ledger_model.proofs.Runs.RunTestLemmas.{some_passes, each_fails, none_passes}
 use Rattle.ledger_model.proofs.Stepping.RemovingLemmas.{remove_home, remove_orphan, remove_loans, reduce_loans}
-use Rattle.vm_memory.specs.declared.memory.run_tests.RunTest.{RunTest}
-use Rattle.vm_memory.specs.declared.memory.run_tests.RunTest.TheVariants.{Used, Free, OnLoan, Lacks}
-use Rattle.vm_memory.specs.Pages.Here.{here_at, here_of, info_of_loan}
-use Rattle.vm_memory.specs.Loaning.RunTests.{any_passes, is_loan_here, is_nothing, lacks_here, passes}
+use Rattle.page_views.specs.declared.run_tests.RunTest.{RunTest}
+use Rattle.page_views.specs.declared.run_tests.RunTest.TheVariants.{Used, Free, OnLoan, Lacks}
+use Rattle.page_views.specs.Here.{here_at, here_of, info_of_loan}
+use Rattle.page_views.specs.RunTests.{any_passes, is_loan_here, is_nothing, lacks_here, passes}
 
 -- ---- what is told of a place
 

@@ -16,13 +16,14 @@ use Rattle.sv32_space.specs.SpelledEntries.{entries}
 use Rattle.sv32_space.specs.Tie.{Held}
 use Rattle.xk_base.specs.Numbers.Windows.{page_of}
 use Rattle.vm_memory.specs.declared.memory.Memory.{Memory}
-use Rattle.vm_memory.specs.declared.memory.access.Target.TheVariants.{Page}
-use Rattle.vm_memory.specs.declared.memory.known.KnownPage.{KnownPage}
-use Rattle.vm_memory.specs.declared.memory.known.KnownPages.{KnownPages}
+use Rattle.page_views.specs.declared.targets.Target.TheVariants.{Page}
+use Rattle.page_views.specs.declared.known.KnownPage.{KnownPage}
+use Rattle.page_views.specs.declared.known.KnownPages.{KnownPages}
 use Rattle.vm_memory.specs.Memory.{IsUsable, has_failed, processes}
 use Rattle.vm_memory.specs.Sound.{IsSound}
-use Rattle.vm_memory.specs.Using.EntryAccess.{entry_target}
-use Rattle.vm_memory.specs.Using.Known.{Remembers, frame_if_page, known_page, no_pages}
+use Rattle.page_views.specs.EntryAccess.{entry_target}
+use Rattle.vm_memory.specs.Using.Known.{Remembers}
+use Rattle.page_views.specs.Known.{frame_if_page, known_page, no_pages}
 use Rattle.vm_memory.specs.Using.UserStores.{DoesStore}
 use Rattle.vm_memory.proofs.Using.UserStoringLemmas.{entries_stay}
 

@@ -31,14 +31,14 @@ use Rattle.sv32_space.specs.declared.sides.Entry.TheVariants.{At, Free, OnConsol
 use Rattle.sv32_space.specs.declared.sides.Side.{Side}
 use Rattle.sv32_space.proofs.Ledgers.EntryLedgerLemmas.{names_free}
 use Rattle.vm_memory.specs.declared.memory.Memory.{Memory}
-use Rattle.vm_memory.specs.declared.memory.access.Target.{Target}
-use Rattle.vm_memory.specs.declared.memory.access.Target.TheVariants.{Page, Console, Nothing}
+use Rattle.page_views.specs.declared.targets.Target.{Target}
+use Rattle.page_views.specs.declared.targets.Target.TheVariants.{Page, Console, Nothing}
 use Rattle.vm_memory.specs.Bytes.{MeansBytes, is_known, is_out, means_bytes, names_slot, none_out}
 use Rattle.vm_memory.specs.Memory.{IsUsable, Size, has_failed, ledger, processes, store_of}
 use Rattle.vm_memory.specs.Pages.Exchanging.{BringsIn, IsInFrame, slot_reached}
 use Rattle.vm_memory.specs.Sound.{IsSound}
 use Rattle.vm_memory.specs.Using.Access.{contents_reached, reaches_bytes}
-use Rattle.vm_memory.specs.Using.EntryAccess.{entry_target, is_given_target}
+use Rattle.page_views.specs.EntryAccess.{entry_target, is_given_target}
 use Rattle.vm_memory.specs.Using.UserView.{KeepsRest, contents_seen, seen_memory, user_content, user_view}
 use Rattle.vm_memory.proofs.Changing.CallLemmas.{either_kept, none_out-slots}
 use Rattle.vm_memory.proofs.Changing.ShiftedLemmas.{known_kept}

@@ -16,9 +16,9 @@ use Rattle.sv32_space.specs.SpelledEntries.{entries}
 use Rattle.sv32_space.specs.Tie.{bytes_at}
 use Rattle.sv32_space.proofs.EntryLemmas.{no_entry_elsewhere}
 use Rattle.sv32_space.proofs.RunLemmas.{remove_nothing}
-use Rattle.vm_memory.specs.declared.memory.Here.TheVariants.{Nothing}
+use Rattle.page_views.specs.declared.places.Here.TheVariants.{Nothing}
 use Rattle.vm_memory.specs.declared.memory.Memory.{Memory}
-use Rattle.vm_memory.specs.Pages.Here.{here_at, here_of}
+use Rattle.page_views.specs.Here.{here_at, here_of}
 use Rattle.vm_memory.specs.Memory.{blank_ledger, ledger, processes}
 use Rattle.vm_memory.specs.Sound.{IsSound}
 use Rattle.sv32_space.proofs.Agreeing.EntryRoleLemmas.{role-entry}

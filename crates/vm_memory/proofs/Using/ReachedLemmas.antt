@@ -24,10 +24,10 @@ use Rattle.sv32_space.specs.SpelledEntries.{entries}
 use Rattle.sv32_space.specs.Tie.{bytes_at}
 use Rattle.xk_base.specs.declared.ids.Frame.{Frame as FrameNumber}
 use Rattle.vm_memory.specs.declared.memory.Memory.{Memory}
-use Rattle.vm_memory.specs.declared.memory.access.Target.TheVariants.{Page, Nothing, Console as OnDevice}
+use Rattle.page_views.specs.declared.targets.Target.TheVariants.{Page, Nothing, Console as OnDevice}
 use Rattle.vm_memory.specs.Using.Access.{contents_reached, reaches_bytes}
 use Rattle.vm_memory.specs.Bytes.{names_frame, is_near}
-use Rattle.vm_memory.specs.Using.EntryAccess.{entry_target, is_given_target, is_page_target}
+use Rattle.page_views.specs.EntryAccess.{entry_target, is_given_target, is_page_target}
 use Rattle.vm_memory.specs.Loaning.Lending.{frame_named}
 use Rattle.vm_memory.specs.Memory.{processes, ledger, blank_ledger}
 use Rattle.vm_memory.specs.Sound.{IsSound}

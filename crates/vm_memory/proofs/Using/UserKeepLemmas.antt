@@ -16,7 +16,7 @@ use Rattle.xk_base.specs.Numbers.Windows.{page_of}
 use Rattle.vm_memory.specs.Memory.{IsUsable, processes}
 use Rattle.vm_memory.specs.Sound.{IsSound}
 use Rattle.vm_memory.specs.Using.UserStores.{DoesStore, StoresBytes, UserStore, store_target}
-use Rattle.vm_memory.specs.Using.EntryAccess.{is_given_target}
+use Rattle.page_views.specs.EntryAccess.{is_given_target}
 use Rattle.vm_memory.specs.Using.UserView.{KeepsRest, user_view, user_content}
 use Rattle.vm_memory.proofs.Changing.SoundMemoryLemmas.{sound-tied}
 use Rattle.vm_memory.proofs.Using.UserLemmas.{IsDeviceTarget, device_target, is_device, may_by, console_by, nothing_given}

@@ -26,9 +26,9 @@ use Rattle.sv32_space.specs.EntryReach.{entry_may, side_may}
 use Rattle.sv32_space.specs.SpelledEntries.{entries}
 use Rattle.sv32_space.specs.Tie.{Held, bytes_at}
 use Rattle.vm_memory.specs.declared.memory.Memory.{Memory}
-use Rattle.vm_memory.specs.declared.memory.access.Target.{Target}
-use Rattle.vm_memory.specs.declared.memory.access.Target.TheVariants.{Page, Nothing, Console as OnDevice}
-use Rattle.vm_memory.specs.Using.EntryAccess.{entry_target, is_given_target}
+use Rattle.page_views.specs.declared.targets.Target.{Target}
+use Rattle.page_views.specs.declared.targets.Target.TheVariants.{Page, Nothing, Console as OnDevice}
+use Rattle.page_views.specs.EntryAccess.{entry_target, is_given_target}
 use Rattle.xk_base.specs.Numbers.Windows.{page_of}
 use Rattle.vm_memory.specs.Memory.{processes, ledger}
 use Rattle.vm_memory.specs.Sound.{IsSound}

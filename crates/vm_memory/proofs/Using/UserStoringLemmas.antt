@@ -33,8 +33,8 @@ use Rattle.sv32_space.specs.SpelledEntries.{entries}
 use Rattle.sv32_space.specs.Tie.{Held, bytes_at}
 use Rattle.sv32_space.proofs.Ledgers.EntryLedgerLemmas.{names_owned}
 use Rattle.vm_memory.specs.declared.memory.Memory.{Memory}
-use Rattle.vm_memory.specs.declared.memory.access.Target.TheVariants.{Page as ToPage}
-use Rattle.vm_memory.specs.Using.EntryAccess.{entry_target}
+use Rattle.page_views.specs.declared.targets.Target.TheVariants.{Page as ToPage}
+use Rattle.page_views.specs.EntryAccess.{entry_target}
 use Rattle.xk_base.specs.Numbers.Windows.{page_of}
 use Rattle.vm_memory.specs.Memory.{processes, ledger, size}
 use Rattle.vm_memory.specs.Sound.{IsSound}

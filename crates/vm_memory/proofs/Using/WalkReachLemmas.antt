@@ -23,11 +23,11 @@ use Rattle.sv32_space.specs.Walk.{walk_of}
 use Rattle.sv32_space.specs.declared.walking.Walked.{Walked}
 use Rattle.sv32_space.specs.declared.walking.Walked.TheVariants.{Reaches, PageFault}
 use Rattle.vm_memory.specs.declared.memory.Memory.{Memory}
-use Rattle.vm_memory.specs.declared.memory.access.Target.TheVariants.{Page, Nothing, Console}
+use Rattle.page_views.specs.declared.targets.Target.TheVariants.{Page, Nothing, Console}
 use Rattle.vm_memory.specs.Bytes.{is_out, names_slot}
 use Rattle.vm_memory.specs.Memory.{ledger, processes}
 use Rattle.vm_memory.specs.Sound.{IsSound}
-use Rattle.vm_memory.specs.Using.EntryAccess.{entry_target, is_given_target}
+use Rattle.page_views.specs.EntryAccess.{entry_target, is_given_target}
 use Rattle.vm_memory.specs.Using.Walking.{is_reachable, is_reached, walk_reaches}
 use Rattle.vm_memory.proofs.Using.ReachedLemmas.{reach_by, reach_nowhere}
 use Rattle.vm_memory.proofs.Using.WalkTargetLemmas.{frame_target, walk_target, walk_leads}

@@ -30,9 +30,9 @@ use Rattle.sv32_space.specs.Walk.{walk_of}
 use Rattle.sv32_space.proofs.Ledgers.EntryLedgerLemmas.{names_free}
 use Rattle.sv32_space.proofs.ReachLemmas.{walk_by_entry, walk_outside}
 use Rattle.vm_memory.specs.declared.memory.Memory.{Memory}
-use Rattle.vm_memory.specs.declared.memory.access.Target.{Target}
-use Rattle.vm_memory.specs.declared.memory.access.Target.TheVariants.{Page, Console, Nothing}
-use Rattle.vm_memory.specs.Using.EntryAccess.{entry_target}
+use Rattle.page_views.specs.declared.targets.Target.{Target}
+use Rattle.page_views.specs.declared.targets.Target.TheVariants.{Page, Console, Nothing}
+use Rattle.page_views.specs.EntryAccess.{entry_target}
 use Rattle.vm_memory.specs.Memory.{processes}
 use Rattle.vm_memory.specs.Sound.{IsSound}
 

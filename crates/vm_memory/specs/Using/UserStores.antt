@@ -11,9 +11,9 @@ use Rattle.phys_pages.specs.Ram.{pages, with_page}
 use Rattle.ledger_model.specs.Steps.{written}
 use Rattle.sv32_space.specs.SpelledEntries.{entries}
 use Rattle.vm_memory.specs.declared.memory.Memory.{Memory}
-use Rattle.vm_memory.specs.declared.memory.access.Target.{Target}
-use Rattle.vm_memory.specs.declared.memory.access.Target.TheVariants.{Page, Console, Nothing}
-use Rattle.vm_memory.specs.Using.EntryAccess.{entry_target}
+use Rattle.page_views.specs.declared.targets.Target.{Target}
+use Rattle.page_views.specs.declared.targets.Target.TheVariants.{Page, Console, Nothing}
+use Rattle.page_views.specs.EntryAccess.{entry_target}
 use Rattle.xk_base.specs.Numbers.Windows.{page_of}
 use Rattle.vm_memory.specs.Memory.{processes}
 

@@ -1,87 +1,25 @@
 //! What stands at a place, by its entry, and where an access leads.
 
 ghost use Rattle.xk_base.specs.Tables.Circle.{is_pid};
-ghost use Rattle.std.specs.Option.{option_copied};
 ghost use Rattle.std.specs.Prelude.{◌≡◌, ℕ, ◌<◌, Some, true, IsSome};
 ghost use Rattle.ledger_model.specs.Places.{is_user_place};
 ghost use Rattle.phys_pages.specs.Ram.{area};
 ghost use Rattle.sv32_space.specs.SpelledEntries.{entries};
 ghost use Rattle.vm_memory.specs.Bytes.{is_near};
-ghost use Rattle.vm_memory.specs.Using.EntryAccess.{entry_target, is_given_target, is_page_target, side_here};
+ghost use Rattle.page_views.specs.EntryAccess.{entry_target, is_given_target};
 ghost use Rattle.xk_base.specs.Numbers.Windows.{page_of, window_at};
-ghost use Rattle.vm_memory.specs.Pages.Here.{here_at};
+ghost use Rattle.page_views.specs.Here.{here_at};
 ghost use Rattle.vm_memory.specs.Loaning.Lending.{frame_named};
 ghost use Rattle.vm_memory.specs.Memory.{ledger, processes, ram_of};
 ghost use Rattle.vm_memory.specs.Sound.{IsSound};
 
-use crate::memory::{Here, Memory};
-use phys_pages::{PageInfo, Seat};
-use sv32_space::{Entry, Side, Walked, entry_at, root_of, walk};
+use crate::memory::Memory;
+use page_views::{Here, Target, here_by_side};
+use phys_pages::Seat;
+use sv32_space::{Entry, Walked, entry_at, root_of, walk};
 use xk_base::limits::PAGE_SIZE;
-use xk_base::{Access, Frame, LoanKind, Number, Pid, Place, Right, window_of};
+use xk_base::{Access, Frame, Pid, Place, Right, window_of};
 use xk_ports::SwapStore;
-
-/// Where an access leads.
-#[derive(Clone, Copy, Debug, PartialEq, Eq)]
-pub(crate) enum Target {
-    Page(Frame),
-    Console,
-    Nothing,
-}
-
-impl Target {
-    pub(crate) fn is_page(&self) -> bool
-        ensures { result ≡ is_page_target self.now }
-    {
-        matches!(self, Target::Page(_))
-    }
-
-    // Whether the process has the access.
-    pub(crate) fn is_given(&self) -> bool
-        ensures { result ≡ is_given_target self.now }
-    {
-        !matches!(self, Target::Nothing)
-    }
-}
-
-// What `at` tells of a side of a page.
-fn here(side: Side, info: Option<&PageInfo>) -> Here
-    ensures { result ≡ side_here side (option_copied info.entry) }
-{
-    let home = info.and_then(|info| info.home);
-    let loan = info.and_then(|info| info.loan);
-    let number = match loan {
-        Some(loan) => loan.number,
-        None => Number(0),
-    };
-    match side {
-        Side::Own(right) => Here::Own {
-            right,
-            console: false,
-            loan: None,
-        },
-        Side::LentOut(right) => Here::Own {
-            right,
-            console: false,
-            loan,
-        },
-        Side::LentIn => Here::Lent {
-            kind: LoanKind::Shared,
-            lender: home,
-            number,
-        },
-        Side::MutOut { x } => Here::Own {
-            right: Right { w: true, x },
-            console: false,
-            loan,
-        },
-        Side::MutIn => Here::Lent {
-            kind: LoanKind::Exclusive,
-            lender: home,
-            number,
-        },
-    }
-}
 
 impl<W: SwapStore> Memory<W> {
     // Whether it is one of the processes that the memory was made for.
@@ -157,7 +95,7 @@ impl<W: SwapStore> Memory<W> {
         }
         match self.entry(place) {
             Entry::Free => Here::Nothing,
-            Entry::At { side, seat } => here(side, self.owners.info(seat)),
+            Entry::At { side, seat } => here_by_side(side, self.owners.info(seat)),
             Entry::OnConsole { w } => Here::Own {
                 right: Right { w, x: false },
                 console: true,

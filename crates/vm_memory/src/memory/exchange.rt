@@ -16,13 +16,13 @@ ghost use Rattle.vm_memory.specs.Bytes.{MeansBytesOver, is_out, none_out, pages_
 ghost use Rattle.vm_memory.specs.Memory.{IsUsable, frames_for_pages, has_failed, ledger, processes, ram_of, store_of};
 ghost use Rattle.vm_memory.specs.Pages.Exchanging.{BringsIn, IsInFrame, MovesPages, slot_reached};
 ghost use Rattle.vm_memory.specs.Sound.{IsSound};
-ghost use Rattle.vm_memory.specs.Using.EntryAccess.{entry_target, is_given_target};
+ghost use Rattle.page_views.specs.EntryAccess.{entry_target, is_given_target};
 ghost use Rattle.xk_base.specs.Numbers.Windows.{page_of};
 ghost use Rattle.xk_base.specs.Outside.{Rose};
 ghost use Rattle.xk_base.specs.declared.ids.Place.{Place};
 
 use crate::memory::Memory;
-use crate::memory::access::Target;
+use page_views::Target;
 use phys_pages::Seat;
 use sv32_space::{Entry, Side};
 use swap_map::{bring, evict};

@@ -7,8 +7,8 @@ ghost use Rattle.vm_memory.specs.Bytes.{is_out};
 ghost use Rattle.vm_memory.specs.Memory.{IsUsable, has_failed, processes, ram_of, store_of};
 ghost use Rattle.vm_memory.specs.Pages.Exchanging.{BringsIn};
 ghost use Rattle.vm_memory.specs.Sound.{IsSound};
-ghost use Rattle.vm_memory.specs.Using.EntryAccess.{entry_target, is_given_target};
-ghost use Rattle.vm_memory.specs.Using.Known.{Remembers, frame_if_page, known_page, no_pages, with_known};
+ghost use Rattle.page_views.specs.EntryAccess.{entry_target, is_given_target};
+ghost use Rattle.vm_memory.specs.Using.Known.{Remembers};
 ghost use Rattle.vm_memory.specs.Using.UserView.{KeepsRest, user_content, user_seen, user_view};
 ghost use Rattle.xk_base.specs.Numbers.Windows.{page_of};
 ghost use Rattle.xk_base.specs.Outside.{Rose};
@@ -16,64 +16,10 @@ ghost use Rattle.xk_base.specs.UserMemory.{KeepsContent, LoadsNumber, StoresAsTo
 ghost use Rattle.xk_base.specs.declared.pages.Access.TheVariants.{Store};
 
 use crate::memory::Memory;
-use crate::memory::access::Target;
+use page_views::{KnownPage, KnownPages, Target};
 use xk_base::limits::PAGE_SIZE;
-use xk_base::{Access, Failed, Frame, Pid, Stored, UserMemory, Vpn, Width};
+use xk_base::{Access, Failed, Pid, Stored, UserMemory, Vpn, Width};
 use xk_ports::SwapStore;
-
-/// A page that accesses reached: its number, and the frame that it is in.
-#[derive(Clone, Copy, Debug, PartialEq, Eq)]
-pub struct KnownPage {
-    vpn: Vpn,
-    frame: Frame,
-}
-
-/// Pages of a process whose frames are known: one for each kind of access.
-#[derive(Clone, Copy, Debug, PartialEq, Eq)]
-pub struct KnownPages {
-    fetch: Option<KnownPage>,
-    load: Option<KnownPage>,
-    store: Option<KnownPage>,
-}
-
-impl KnownPages {
-    /// No page is known.
-    pub fn new() -> KnownPages
-        ensures { result ≡ no_pages }
-    {
-        KnownPages {
-            fetch: None,
-            load: None,
-            store: None,
-        }
-    }
-
-    // The frame of a page, where accesses of that kind know it.
-    fn frame(&self, vpn: Vpn, access: Access) -> Option<Frame>
-        ensures { result ≡ frame_if_page vpn (known_page self.now access) }
-    {
-        let known = match access {
-            Access::Fetch => self.fetch,
-            Access::Load => self.load,
-            Access::Store => self.store,
-        };
-        match known {
-            Some(page) if page.vpn.0 == vpn.0 => Some(page.frame),
-            _ => None,
-        }
-    }
-
-    // Accesses of that kind know the page from now on, and no other.
-    fn remember(&mut self, access: Access, page: KnownPage)
-        ensures { self.new ≡ with_known self.old access page }
-    {
-        match access {
-            Access::Fetch => self.fetch = Some(page),
-            Access::Load => self.load = Some(page),
-            Access::Store => self.store = Some(page),
-        }
-    }
-}
 
 /// A process's memory by virtual addresses, as `User` is one. The walk to a page that is known isn't made
 /// again; where a page may move, none is known any more.

@@ -21,7 +21,7 @@ ghost use Rattle.vm_memory.specs.Tie.{IsTied};
 ghost use Rattle.xk_base.specs.Outside.{Rose};
 
 use crate::memory::Memory;
-use crate::memory::run_tests::{RunTest, fits};
+use page_views::{RunTest, fits};
 use phys_pages::Seat;
 use xk_base::{Failed, Pid, Place, Right, Slot, Vpn, Window, XousError};
 use xk_ports::SwapStore;

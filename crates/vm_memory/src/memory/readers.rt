@@ -3,14 +3,14 @@
 ghost use Rattle.std.specs.Prelude.{◌≡◌, ℕ};
 ghost use Rattle.ledger_model.specs.Ledger.{pages};
 ghost use Rattle.ledger_model.specs.Loans.{IsFresh, loans};
-ghost use Rattle.vm_memory.specs.Pages.Here.{here_at};
+ghost use Rattle.page_views.specs.Here.{here_at};
 ghost use Rattle.ledger_model.specs.WholePages.{HasWholePages};
 ghost use Rattle.vm_memory.specs.Memory.{capacity_of, frames_for_pages, ledger, processes, ram_of, store_of};
 ghost use Rattle.vm_memory.specs.Sound.{IsSound};
 ghost use Rattle.vm_memory.specs.Tie.{IsTied};
 ghost use Rattle.xk_base.specs.declared.ids.Number.{Number};
 
-use crate::memory::{Here, Memory};
+use crate::memory::Memory;
 use phys_pages::Ram;
 use xk_base::limits::TABLE_FRAMES;
 use xk_ports::SwapStore;

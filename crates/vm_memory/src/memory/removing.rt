@@ -15,7 +15,7 @@ ghost use Rattle.vm_memory.specs.Sound.{IsSound};
 ghost use Rattle.vm_memory.specs.Tie.{IsTied};
 
 use crate::memory::Memory;
-use crate::memory::run_tests::RunTest;
+use page_views::RunTest;
 use sv32_space::{table_of, used_entry};
 use xk_base::{Pid, Place, Right, Vpn, Window, XousError};
 use xk_ports::SwapStore;

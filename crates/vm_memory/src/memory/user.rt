@@ -1,10 +1,9 @@
 //! The memory of one process, as its instructions see it.
 
 ghost use Rattle.std.specs.Prelude.{◌≡◌, ◌+◌, ◌%◌, ◌<◌, ◌≤◌, ℕ, true, length, slice_index, None, Some, IfOk, OnOk, OnErr};
-ghost use Rattle.ledger_model.specs.Steps.{written};
 ghost use Rattle.sv32_space.specs.SpelledEntries.{entries};
 ghost use Rattle.sv32_space.specs.EntryReach.{entry_may};
-ghost use Rattle.vm_memory.specs.Using.EntryAccess.{entry_target, is_given_target};
+ghost use Rattle.page_views.specs.EntryAccess.{entry_target, is_given_target};
 ghost use Rattle.xk_base.specs.Numbers.Windows.{page_of};
 ghost use Rattle.vm_memory.specs.Bytes.{is_out};
 ghost use Rattle.vm_memory.specs.Memory.{IsUsable, has_failed, processes, ram_of, store_of};
@@ -17,7 +16,7 @@ ghost use Rattle.vm_memory.specs.Using.UserView.{KeepsRest, user_content, user_s
 ghost use Rattle.xk_base.specs.declared.pages.Access.TheVariants.{Store};
 
 use crate::memory::Memory;
-use crate::memory::access::Target;
+use page_views::{Target, read_number, write_number};
 use xk_base::limits::PAGE_SIZE;
 use xk_base::{Access, Failed, Pid, Place, Stored, UserMemory, Vpn, Width};
 use xk_ports::SwapStore;
@@ -27,45 +26,6 @@ use xk_ports::SwapStore;
 pub struct User<'a, W: SwapStore> {
     pub mem: &'a mut Memory<W>,
     pub pid: Pid,
-}
-
-// The number of that width at an offset of a page, lowest byte first.
-fn read_number(page: &[u8], offset: u32, width: Width) -> u32
-    requires whole { length page.now ≡ 4096 }
-    requires aligned { offset % size_of width ≡ 0 }
-    requires within { offset < 4096 }
-    ensures { result ≡ number_at (λ i. slice_index page.now i) offset width }
-{
-    let at = offset as usize;
-    match width {
-        Width::Byte => u32::from(page[at]),
-        Width::Half => u32::from(u16::from_le_bytes([page[at], page[at + 1]])),
-        Width::Word => u32::from_le_bytes([page[at], page[at + 1], page[at + 2], page[at + 3]]),
-    }
-}
-
-// Writes the low bytes of a value at an offset of a page, lowest byte first.
-fn write_number(page: &mut [u8], offset: u32, width: Width, value: u32)
-    requires whole { length page.old ≡ 4096 }
-    requires aligned { offset % size_of width ≡ 0 }
-    requires within { offset < 4096 }
-    ensures { page.new ≡ written page.old offset (low_bytes width value) }
-{
-    let at = offset as usize;
-    let [first, second, third, fourth] = value.to_le_bytes();
-    match width {
-        Width::Byte => page[at] = first,
-        Width::Half => {
-            page[at] = first;
-            page[at + 1] = second;
-        }
-        Width::Word => {
-            page[at] = first;
-            page[at + 1] = second;
-            page[at + 2] = third;
-            page[at + 3] = fourth;
-        }
-    }
 }
 
 impl<W: SwapStore> Memory<W> {

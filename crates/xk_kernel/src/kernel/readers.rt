@@ -2,7 +2,7 @@
 
 ghost use Rattle.std.specs.Prelude.{◌≡◌, is_some};
 ghost use Rattle.machine_model.specs.State.Order.{actor, ready_at, turn};
-ghost use Rattle.vm_memory.specs.Pages.Here.{here_at};
+ghost use Rattle.page_views.specs.Here.{here_at};
 ghost use Rattle.vm_memory.specs.Memory.{ram_of, store_of};
 ghost use Rattle.vm_memory.specs.Tie.{IsTied};
 ghost use Rattle.xk_kernel.specs.Knowing.{PutsNoneOut};

@@ -1,7 +1,7 @@
 use Rattle.std.proofs.Common.{◌∙◌, List, Option, ℕ, subst, sym}
 use Rattle.std.specs.Prelude.{None, OnErr}
-use Rattle.vm_memory.specs.declared.memory.Here.{Here}
-use Rattle.vm_memory.specs.declared.memory.Here.TheVariants.{Lent}
+use Rattle.page_views.specs.declared.places.Here.{Here}
+use Rattle.page_views.specs.declared.places.Here.TheVariants.{Lent}
 use Rattle.xk_base.specs.declared.ids.Place.{Place}
 use Rattle.xk_ports.specs.Told.{GrowsByProperPrefix}
 use Rattle.event_player.specs.Table.{orphan_line}

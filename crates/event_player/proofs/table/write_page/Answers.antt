@@ -1,7 +1,7 @@
 use Rattle.std.proofs.Common.{◌∙◌, List, ℕ, subst, sym}
 use Rattle.std.specs.Prelude.{OnErr}
-use Rattle.vm_memory.specs.declared.memory.Here.{Here}
-use Rattle.vm_memory.specs.declared.memory.Here.TheVariants.{Own}
+use Rattle.page_views.specs.declared.places.Here.{Here}
+use Rattle.page_views.specs.declared.places.Here.TheVariants.{Own}
 use Rattle.xk_ports.specs.Told.{GrowsByProperPrefix}
 use Rattle.event_player.specs.Table.{page_line}
 use Rattle.event_player.proofs.table.write_page.Goals as goal

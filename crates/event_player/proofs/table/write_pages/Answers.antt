@@ -6,7 +6,7 @@ use Rattle.xk_ports.proofs.ToldLemmas.{Grows-append, Grows-none}
 use Rattle.xk_base.specs.declared.ids.Place.{Place}
 use Rattle.ledger_model.specs.Places.{place_at}
 use Rattle.event_player.specs.Table.{page_line, pages_text}
-use Rattle.vm_memory.specs.declared.memory.Here.{Here}
+use Rattle.page_views.specs.declared.places.Here.{Here}
 use Rattle.event_player.proofs.Playing.TableLemmas.{few_processes, all_pages, blank_page, is_home, listed_text, page_line_in, text_next, text_none, text_split}
 use Rattle.host_io.proofs.ToldLemmas.{on_err, prefix_after}
 use Rattle.event_player.proofs.table.write_pages.Goals as goal

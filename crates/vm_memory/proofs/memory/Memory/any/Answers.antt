@@ -1,6 +1,6 @@
 use Rattle.std.proofs.Common.{arith, sym, ap, ◌∙◌}
 use Rattle.vm_memory.specs.Memory.{ledger, processes}
-use Rattle.vm_memory.specs.Loaning.RunTests.{passes}
+use Rattle.page_views.specs.RunTests.{passes}
 use Rattle.vm_memory.proofs.Changing.RunLemmas.{any_found, any_missed}
 use Rattle.vm_memory.proofs.memory.Memory.any.Goals as goal
 

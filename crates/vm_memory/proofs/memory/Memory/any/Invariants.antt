@@ -1,8 +1,8 @@
 use Rattle.std.proofs.Common.{◌≡◌, ◌<◌, ℕ, false}
 use Rattle.ledger_model.specs.Places.{place_after}
-use Rattle.vm_memory.specs.Pages.Here.{here_at}
+use Rattle.page_views.specs.Here.{here_at}
 use Rattle.vm_memory.specs.Memory.{ledger, processes}
-use Rattle.vm_memory.specs.Loaning.RunTests.{passes}
+use Rattle.page_views.specs.RunTests.{passes}
 use Rattle.vm_memory.proofs.memory.Memory.any.Given as goal
 
 -- none of the first i places passes

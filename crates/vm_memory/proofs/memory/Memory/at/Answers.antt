@@ -1,5 +1,5 @@
 use Rattle.std.proofs.Common.{Some, sym, ap, ◌∙◌}
-use Rattle.vm_memory.specs.Using.EntryAccess.{side_here}
+use Rattle.page_views.specs.EntryAccess.{side_here}
 use Rattle.vm_memory.proofs.Changing.HereLemmas.{here-free, here-nowhere, here-side, here-console, seat_there}
 use Rattle.vm_memory.proofs.memory.Memory.at.Goals as goal
 
@@ -14,7 +14,7 @@ pub returns-in-Free : goal.returns-in-Free
 returns-in-Free g c = here-free g.W.SwapStore c.args.self.now c.requires.sound c.args.place (c.entry.ensures ∙ ap (λ e. Some e) c.in-Free.is)
 
 pub returns-in-At : goal.returns-in-At
-returns-in-At g c = c.here.ensures ∙ ap (side_here c.in-At.side) c.info.ensures
+returns-in-At g c = c.here_by_side.ensures ∙ ap (side_here c.in-At.side) c.info.ensures
     ∙ here-side g.W.SwapStore c.args.self.now c.requires.sound c.args.place c.in-At.side c.in-At.seat (c.entry.ensures ∙ ap (λ e. Some e) c.in-At.is)
 
 pub returns-in-OnConsole : goal.returns-in-OnConsole

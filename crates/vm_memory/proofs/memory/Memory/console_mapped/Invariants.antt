@@ -1,6 +1,6 @@
 use Rattle.std.proofs.Common.{◌≡◌, ◌+◌, ◌<◌, ℕ, false}
 use Rattle.vm_memory.specs.Memory.{ledger}
-use Rattle.vm_memory.specs.Loaning.RunTests.{has_console}
+use Rattle.page_views.specs.RunTests.{has_console}
 use Rattle.vm_memory.proofs.memory.Memory.console_mapped.Given as goal
 
 -- none of the first k processes has it

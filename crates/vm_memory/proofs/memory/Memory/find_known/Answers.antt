@@ -1,7 +1,7 @@
 use Rattle.std.proofs.Common.{sym, ap, ◌∙◌}
 use Rattle.sv32_space.specs.SpelledEntries.{entries}
 use Rattle.vm_memory.specs.Memory.{processes}
-use Rattle.vm_memory.specs.Using.EntryAccess.{is_given_target}
+use Rattle.page_views.specs.EntryAccess.{is_given_target}
 use Rattle.xk_base.specs.Numbers.Windows.{page_of}
 use Rattle.vm_memory.proofs.Using.KnownPageLemmas.{known_leads}
 use Rattle.vm_memory.proofs.Using.NearLemmas.{given_may}

@@ -4,7 +4,7 @@ use Rattle.swap_map.proofs.ExchangeLemmas.{on_err}
 use Rattle.xk_base.specs.Numbers.Windows.{page_of}
 use Rattle.vm_memory.specs.Bytes.{is_out}
 use Rattle.vm_memory.specs.Memory.{processes}
-use Rattle.vm_memory.specs.Using.EntryAccess.{is_given_target}
+use Rattle.page_views.specs.EntryAccess.{is_given_target}
 use Rattle.vm_memory.proofs.Changing.ShiftedLemmas.{same_moves}
 use Rattle.vm_memory.proofs.Using.NearLemmas.{IsOutAt, given_may, leads_near, leads_unless_out, nowhere_target, out_at, reached_not_none, reached_out, reached_used}
 use Rattle.vm_memory.proofs.memory.Memory.find_near.Goals as goal

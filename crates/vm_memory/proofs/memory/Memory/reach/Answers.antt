@@ -3,7 +3,7 @@ use Rattle.xk_base.specs.Numbers.Windows.{page_of}
 use Rattle.vm_memory.specs.Bytes.{is_near}
 use Rattle.vm_memory.specs.Memory.{ledger, processes}
 use Rattle.vm_memory.specs.Using.Access.{reaches_bytes}
-use Rattle.vm_memory.specs.Using.EntryAccess.{is_given_target, is_page_target}
+use Rattle.page_views.specs.EntryAccess.{is_given_target, is_page_target}
 use Rattle.vm_memory.proofs.Changing.ShiftedLemmas.{keeps_all}
 use Rattle.vm_memory.proofs.Changing.SoundMemoryLemmas.{sound-tied}
 use Rattle.vm_memory.proofs.Using.NearLemmas.{brings_means, brings_reaches, brings_whole, nowhere_reached, same_page}

@@ -4,7 +4,7 @@ use Rattle.xk_base.specs.UserMemory.{number_at}
 use Rattle.sv32_space.specs.SpelledEntries.{entries}
 use Rattle.xk_base.specs.Numbers.Windows.{page_of}
 use Rattle.vm_memory.specs.Memory.{processes}
-use Rattle.vm_memory.specs.Using.EntryAccess.{is_given_target}
+use Rattle.page_views.specs.EntryAccess.{is_given_target}
 use Rattle.vm_memory.proofs.Using.UserLemmas.{page_gives, console_gives, nothing_given, page_target}
 use Rattle.vm_memory.proofs.Using.WalkTargetLemmas.{page_frame}
 use Rattle.vm_memory.proofs.memory.Memory.read_at.Goals as goal

@@ -2,7 +2,7 @@ use Rattle.std.proofs.Common.{sym, ap, ◌∙◌}
 use Rattle.xk_base.specs.UserMemory.{KeepsContent}
 use Rattle.xk_base.specs.declared.pages.Access.TheVariants.{Store}
 use Rattle.vm_memory.specs.Bytes.{means_bytes}
-use Rattle.vm_memory.specs.Using.EntryAccess.{is_given_target}
+use Rattle.page_views.specs.EntryAccess.{is_given_target}
 use Rattle.vm_memory.specs.Using.UserRest.{rest_over}
 use Rattle.vm_memory.specs.Using.UserView.{user_content, user_seen, user_view}
 use Rattle.swap_map.proofs.ExchangeLemmas.{on_err}

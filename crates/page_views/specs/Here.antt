@@ -5,8 +5,8 @@ use Rattle.xk_base.specs.declared.ids.Place.{Place}
 use Rattle.phys_pages.specs.declared.infos.LoanInfo.{LoanInfo}
 use Rattle.ledger_model.specs.Ledger.{Ledger, PageLoan, has_bytes}
 use Rattle.ledger_model.specs.Reach.{Role, FreePlace, HomePlace, HolderPlace, OrphanPlace, role_at}
-use Rattle.vm_memory.specs.declared.memory.Here.{Here}
-use Rattle.vm_memory.specs.declared.memory.Here.TheVariants.{Nothing, Own, Lent}
+use Rattle.page_views.specs.declared.places.Here.{Here}
+use Rattle.page_views.specs.declared.places.Here.TheVariants.{Nothing, Own, Lent}
 
 abbrev pub info_of_loan : PageLoan → LoanInfo
 info_of_loan loan = record { holder = loan.holder; kind = loan.kind; number = loan.number }

@@ -1,8 +1,8 @@
 use Rattle.std.proofs.Common.{◌≡◌, ◌%◌, List, ℕ, [], ◌∷◌, get_or, ap, sym, subst, ◌∙◌, arith}
 use Rattle.xk_base.specs.UserMemory.{size_of, low_bytes}
 use Rattle.ledger_model.specs.Steps.{written}
-use Rattle.vm_memory.proofs.Bytes.ByteWriteLemmas.{set_four}
-use Rattle.vm_memory.proofs.memory.user.write_number.Goals as goal
+use Rattle.page_views.proofs.ByteWriteLemmas.{set_four}
+use Rattle.page_views.proofs.numbers.write_number.Goals as goal
 
 pub returns-in-Word : goal.returns-in-Word
 returns-in-Word c =

@@ -12,10 +12,10 @@ use Rattle.sv32_space.specs.Agreement.{home_in, loan_in, number_of}
 use Rattle.sv32_space.specs.declared.sides.Entry.{Entry}
 use Rattle.sv32_space.specs.declared.sides.Entry.TheVariants.{Free, At, OnConsole}
 use Rattle.sv32_space.specs.EntryReach.{side_may}
-use Rattle.vm_memory.specs.declared.memory.Here.{Here}
-use Rattle.vm_memory.specs.declared.memory.Here.TheVariants as here
-use Rattle.vm_memory.specs.declared.memory.access.Target.{Target}
-use Rattle.vm_memory.specs.declared.memory.access.Target.TheVariants.{Page, Console, Nothing}
+use Rattle.page_views.specs.declared.places.Here.{Here}
+use Rattle.page_views.specs.declared.places.Here.TheVariants as here
+use Rattle.page_views.specs.declared.targets.Target.{Target}
+use Rattle.page_views.specs.declared.targets.Target.TheVariants.{Page, Console, Nothing}
 
 -- where an access leads: to the frame of a page, to the console, or nowhere. A page that is out isn't reached before it is
 -- brought in

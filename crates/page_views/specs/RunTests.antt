@@ -10,10 +10,10 @@ use Rattle.ledger_model.specs.Ledger.{Ledger}
 use Rattle.ledger_model.specs.LeastRun.{window_pages, window_place}
 use Rattle.ledger_model.specs.Places.{run}
 use Rattle.ledger_model.specs.RunTests.{any_used, any_free, any_on_loan, any_lacks}
-use Rattle.vm_memory.specs.declared.memory.Here.{Here}
-use Rattle.vm_memory.specs.declared.memory.Here.TheVariants.{Nothing, Own, Lent}
-use Rattle.vm_memory.specs.declared.memory.run_tests.RunTest.{RunTest}
-use Rattle.vm_memory.specs.declared.memory.run_tests.RunTest.TheVariants.{Used, Free, OnLoan, Lacks}
+use Rattle.page_views.specs.declared.places.Here.{Here}
+use Rattle.page_views.specs.declared.places.Here.TheVariants.{Nothing, Own, Lent}
+use Rattle.page_views.specs.declared.run_tests.RunTest.{RunTest}
+use Rattle.page_views.specs.declared.run_tests.RunTest.TheVariants.{Used, Free, OnLoan, Lacks}
 
 abbrev pub is_nothing : Here → Bool
 is_nothing Nothing = true

@@ -1,0 +1,4 @@
+pub mod EntryAccess
+pub mod Here
+pub mod Known
+pub mod RunTests
