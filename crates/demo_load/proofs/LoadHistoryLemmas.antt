@@ -138,10 +138,7 @@ pub load_meets_no_limit : (clients : ℕ) → clients ≤ 31 → (load_history c
 unfolding start
 load_meets_no_limit clients few = (history_unmet (1000 * clients) DEFAULT_STEPS (load_machine clients) (omega arith)).0
 
--- no step was done when it was booted
-pub load_starts_at_zero : (clients : ℕ) → (load_machine clients).steps ≡ 0
 unfolding start
-load_starts_at_zero clients = refl
 
 -- ---- a state with more pages than there are frames for
 

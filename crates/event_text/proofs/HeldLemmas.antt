@@ -196,10 +196,6 @@ pub room_one_line : (r : Reader) (byte : ℕ) → first_line r.held ≡ r.held �
 room_one_line r byte one room =
     one_line_more r.held byte (no_feed_last r.held one (not_true (is_last 10 r.held) (and_true (nat_lt (length r.held) 65) (not (is_last 10 r.held)) room).1))
 
-pub room_short : (r : Reader) → can_grow r ≡ true → length r.held < 65
-room_short r room =
-    let e = (and_true (nat_lt (length r.held) 65) (not (is_last 10 r.held)) room).0 in grind (arith, nat_tests)
-
 pub rest_more : (finished : Bool) → rest_answer finished ≡ More → finished ≡ false
 rest_more true e = cc
 rest_more false e = refl
@@ -266,8 +262,3 @@ same_number m n e = cc
 -- the bad line that is answered is known
 pub bad_known : (r : Reader) (number n : ℕ) → front_of r ≡ Some Bad → number ≡ r.lines_done + 1 → NextBad number ≡ NextBad n → known_bad r ≡ Some n
 bad_known r number n known is bad = rw known (ap (λ (m : ℕ). Some m) (sym is ∙ same_number number n bad))
-
--- the answer without a line isn't a bad line
-pub rest_not_bad : (finished : Bool) (n : ℕ) (o : Option ℕ) → rest_answer finished ≡ NextBad n → o ≡ Some n
-rest_not_bad true n o e = cc
-rest_not_bad false n o e = cc

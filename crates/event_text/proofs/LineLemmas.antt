@@ -2,7 +2,7 @@
 use Rattle.std.proofs.Common.{◌≡◌, ◌≢◌, ℕ, zero, suc, ◌+◌, ◌-◌, ◌*◌, ◌<◌, ◌≤◌, ◌^◌, ◌==◌, List, [], ◌∷◌, ◌++◌, length, take, drop, get_or, refl, ap, ◌∙◌, arith, false, add-one, filter, length-take}
 use Rattle.std.proofs.lemmas.Bool.Decides.{nat_tests}
 use Rattle.std.proofs.lemmas.List.Splits.{slice_split-cons_no}
-use Rattle.std.proofs.Math.Nat.{pow-le-pow_right, pow-suc}
+use Rattle.std.proofs.Math.Nat.{pow-suc}
 use Rattle.std.specs.List.{slice_split, onto_first}
 use Rattle.event_text.specs.Lines.{number_after, words_of, is_not_empty}
 
@@ -10,9 +10,6 @@ use Rattle.event_text.specs.Lines.{number_after, words_of, is_not_empty}
 pub number_after-append : (high : ℕ) (text : List ℕ) (digit : ℕ) → number_after high (text ++ digit ∷ []) ≡ number_after high text * 10 + (digit - 48)
 number_after-append high [] digit = refl
 number_after-append high (d ∷ text) digit = number_after-append (high * 10 + (d - 48)) text digit
-
-pub ten_to_ten : (i : ℕ) → i ≤ 10 → 10 ^ i ≤ 10000000000
-ten_to_ten i h = pow-le-pow_right {n = 10} (omega arith) {i = i} {j = 10} h
 
 pub digits_bound : (i n d : ℕ) → n < 10 ^ i → d ≤ 9 → n * 10 + d < 10 ^ (i + 1)
 digits_bound i n d below small = rw (add-one i, pow-suc 10 i) (omega arith)

@@ -1,13 +1,10 @@
 -- The table as a list: the claimed numbers in ascending order.
-use Rattle.std.proofs.Common.{◌≡◌, ◌<◌, ◌≤◌, ℕ, length, Some, None, true, is_some, ap}
+use Rattle.std.proofs.Common.{◌≡◌, ◌<◌, ℕ, Some, true, is_some, ap}
 use Rattle.std.specs.List.{All, Contains}
 use Rattle.std.specs.List.Sorted.{IsStrictlyIncreasing}
-use Rattle.std.proofs.lemmas.List.{get_or_past}
 use Rattle.xk_base.specs.declared.limits.TheConstants.{INTERRUPT_LIMIT}
 use Rattle.xk_base.proofs.CountingLemmas.{listed_below-ascends, listed_below-passes, listed_below-contains}
 use Rattle.irq_claims.specs.declared.claims.Claim.{Claim}
-use Rattle.irq_claims.specs.declared.claims.Claims.{Claims}
-use Rattle.irq_claims.specs.declared.claims.TheConstants.{NUMBERS}
 use Rattle.irq_claims.specs.ClaimMap.{ClaimMap, claimed_numbers}
 use Rattle.irq_claims.specs.ClaimsOf.{claims_of}
 
@@ -23,7 +20,4 @@ claimed_numbers-claimed m = listed_below-passes INTERRUPT_LIMIT (λ k. is_some (
 pub claimed_numbers-contains : (m : ClaimMap) (k : ℕ) (claim : Claim) → k < INTERRUPT_LIMIT → m k ≡ Some claim → Contains (claimed_numbers m) k
 claimed_numbers-contains m k claim l here = listed_below-contains INTERRUPT_LIMIT k (λ j. is_some (m j)) l (ap is_some here)
 
--- a table of `NUMBERS` places claims no greater number
-pub claims_of_past : (t : Claims) (k : ℕ) → length t.by_number ≡ NUMBERS → NUMBERS ≤ k → claims_of t k ≡ None
 unfolding claims_of
-claims_of_past t k e l = get_or_past t.by_number k None (rw e l)

@@ -10,10 +10,10 @@ use Rattle.kernel_args.specs.CheckNumber.{check_number}
 use Rattle.kernel_args.specs.Joined.{Cut}
 use Rattle.kernel_args.specs.Tags.{Tag, IsTag, tag_bytes, front_tag}
 use Rattle.kernel_args.specs.Contents.{IsProcess}
-use Rattle.kernel_args.specs.Image.{process_limit, IsRightTag, header_tag, Spells}
+use Rattle.kernel_args.specs.Image.{IsRightTag, header_tag, Spells}
 use Rattle.kernel_args.specs.Writing.{with_size, header_row}
 use Rattle.kernel_args.specs.Loads.{file_sizes, loaded_bytes, is_load_outside}
-use Rattle.kernel_args.specs.Converting.{tags_in, row_behind_header, converted_row, converted_process, converted_args, converted_tags, converted, IsRowOf, IsConvertible, CanMove}
+use Rattle.kernel_args.specs.Converting.{tags_in, row_behind_header, converted_row, converted_process, converted_args, converted_tags, converted, IsConvertible, CanMove}
 use Rattle.kernel_args.proofs.JoinedLemmas.{cut_joined}
 use Rattle.kernel_args.proofs.TagLemmas.{tags, length-tag_bytes}
 use Rattle.kernel_args.proofs.ConvertedLemmas.{Became, IsLonger, became, process_is_longer}
@@ -23,16 +23,6 @@ use Rattle.kernel_args.proofs.ConvertingLemmas.{bytes_left_out}
 
 length-header_tag : (args : Args) → length args.ram_name ≡ 4 → length (tag_bytes (header_tag args)) ≡ 28
 length-header_tag args four = omega (arith, length-tag_bytes (header_tag args) refl)
-
-pub spelled_row : (bytes : List ℕ) (args : Args) → Spells bytes args → args.version ≡ 1 → IsRowOf args bytes
-spelled_row bytes args s first =
-    let all : length bytes ≡ length (flat_map tag_bytes (header_tag args ∷ s.tags)) + length s.rest =
-    ap (λ (l : List ℕ). length l) s.whole ∙ length-append (flat_map tag_bytes (header_tag args ∷ s.tags)) s.rest in
-    let few = s.sound.few in
-    let limit : process_limit args.version ≡ 32 = ap process_limit first in
-    let long = s.sound.words in
-    let size = s.size in
-    record { header = omega arith; within = omega arith; words = s.words; procs = omega arith }
 
 are_tags : (ts : List Tag) → AllByRecursion IsRightTag ts → AllByRecursion IsTag ts
 are_tags [] right = tt

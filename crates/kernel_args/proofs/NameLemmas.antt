@@ -1,5 +1,5 @@
 -- Reading the entries of a `PNam` one after the other.
-use Rattle.std.proofs.Common.{◌≡◌, ℕ, ◌-◌, ◌<◌, ◌≤◌, Bool, true, not, cond, List, [], ◌∷◌, ◌++◌, length, map, take, drop, Some, None, refl, sym, ap, subst, ◌∙◌, append_assoc, arith, eqb, leb, inl, inr}
+use Rattle.std.proofs.Common.{◌≡◌, ℕ, ◌-◌, ◌≤◌, Bool, true, not, cond, List, [], ◌∷◌, ◌++◌, length, map, take, drop, Some, None, sym, ap, subst, ◌∙◌, append_assoc, arith, eqb, leb, inl, inr}
 use Rattle.std.specs.List.{flat_map, AllByRecursion}
 use Rattle.std.proofs.lemmas.List.{nil_from_length, append-nil, map-append, take-take}
 use Rattle.std.proofs.lemmas.Bool.{cases_Bool, le-leb, eqb-true}
@@ -38,18 +38,12 @@ front_entry_found (a ∷ b ∷ c ∷ d ∷ k ∷ []) pid len entry rest long pid
 front_entry_found (a ∷ b ∷ c ∷ d ∷ k ∷ l ∷ []) pid len entry rest long pid_is len_is within entry_is rest_is = absurd (omega arith)
 front_entry_found (a ∷ b ∷ c ∷ d ∷ k ∷ l ∷ m ∷ []) pid len entry rest long pid_is len_is within entry_is rest_is = absurd (omega arith)
 
-pub entry_shrinks : (bytes : List ℕ) (pid : ℕ) (name rest : List ℕ) → FrontEntry bytes pid name rest → length rest < length bytes
-entry_shrinks bytes pid name rest f = entries.shrinks bytes f.0 rest f.1
-
 pub record NamesRead (contents rest : List ℕ) (old new : List ProcName) : Type 0 where
   pub es : List Entry
   pub parts : contents ≡ flat_map entry_bytes es ++ rest
   pub each : AllByRecursion IsEntry es
   pub names_are : new ≡ old ++ map name_of es
   pub left : (cut front_entry rest).rest ≡ (cut front_entry contents).rest
-
-pub names_begin : (contents : List ℕ) (old : List ProcName) → NamesRead contents contents old old
-names_begin contents old = record { es = []; parts = refl; each = tt; names_are = sym (append-nil old); left = refl }
 
 pub names_more : (contents rest : List ℕ) (old new : List ProcName) (pid : ℕ) (name after : List ℕ) → NamesRead contents rest old new → IsBytes contents → FrontEntry rest pid name after
     → NamesRead contents after old (new ++ record { pid = pid; name = name } ∷ [])

@@ -1,9 +1,9 @@
 -- The contents of an `IniE` spell a process exactly where they are not bad, and one process at most.
-use Rattle.std.proofs.Common.{◌≡◌, ℕ, ◌+◌, ◌-◌, ◌*◌, ◌/◌, ◌%◌, ◌^◌, ◌<◌, ◌≤◌, Bool, true, false, cond, ◌&&◌, ◌||◌, List, [], ◌∷◌, ◌++◌, length, drop, get_or, map, Option, Some, None, refl, sym, ap, subst, ◌∙◌, arith, ltb, eqb}
+use Rattle.std.proofs.Common.{◌≡◌, ℕ, ◌+◌, ◌-◌, ◌*◌, ◌/◌, ◌%◌, ◌^◌, ◌<◌, ◌≤◌, Bool, true, false, cond, ◌&&◌, ◌||◌, List, [], ◌∷◌, ◌++◌, length, drop, map, Option, Some, None, refl, sym, ap, subst, ◌∙◌, arith, ltb, eqb}
 use Rattle.std.specs.Prelude.{is_some, IfSome}
 use Rattle.std.specs.List.{flat_map, AllByRecursion, list_any}
 use Rattle.std.proofs.lemmas.List.{length-append, length-drop, nil_from_length, append-nil, drop-drop}
-use Rattle.std.proofs.lemmas.Bool.{le-ltb, lt-ltb, or_left, or_right, ltb-false, ne_eqb, eqb-false, or_parts, or_from}
+use Rattle.std.proofs.lemmas.Bool.{le-ltb, lt-ltb, ltb-false, ne_eqb, eqb-false, or_parts, or_from}
 use Rattle.std.proofs.lemmas.Option.{none-some}
 use Rattle.byteorder.specs.Endian.{little_number}
 use Rattle.kernel_args.specs.declared.args.Section.{Section}
@@ -285,15 +285,9 @@ pub record SectionsRead (bytes rest : List ℕ) (ss : List Section) : Type 0 whe
   pub flags : list_any has_unknown_flag (cut front_section rest).items ≡ list_any has_unknown_flag (cut front_section bytes).items
   pub whole : length rest % 8 ≡ 0
 
-pub sections_begin : (bytes : List ℕ) → length bytes % 8 ≡ 0 → SectionsRead bytes bytes []
-sections_begin bytes whole = record { parts = refl; each = tt; flags = refl; whole = whole }
-
 flags_step : (rest : List ℕ) (s : Section) (after : List ℕ) → front_section rest ≡ Some (s, after)
     → list_any has_unknown_flag (cut front_section rest).items ≡ (ltb 31 s.flags || list_any has_unknown_flag (cut front_section after).items)
 flags_step rest s after e = ap (λ (c : Cut Section). list_any has_unknown_flag c.items) (cut_some front_section section_bytes IsSpelled sections rest s after e)
-
-pub section_shrinks : (bytes : List ℕ) (s : Section) (rest : List ℕ) → front_section bytes ≡ Some (s, rest) → length rest < length bytes
-section_shrinks bytes s rest e = sections.shrinks bytes s rest e
 
 pub sections_more : (bytes rest : List ℕ) (ss : List Section) (s : Section) (after : List ℕ) → SectionsRead bytes rest ss → IsBytes bytes → front_section rest ≡ Some (s, after) → s.flags ≤ 31
     → SectionsRead bytes after (ss ++ s ∷ [])
@@ -316,45 +310,9 @@ pub sections_refused : (bytes rest : List ℕ) (ss : List Section) (s : Section)
 sections_refused bytes rest ss s after so_far e unknown =
     sym so_far.flags ∙ flags_step rest s after e ∙ ap (λ (b : Bool). b || list_any has_unknown_flag (cut front_section after).items) (lt-ltb 31 s.flags unknown)
 
-pub sections_end : (bytes rest : List ℕ) (ss : List Section) → SectionsRead bytes rest ss → length rest < 8 → bytes ≡ flat_map section_bytes ss
-sections_end bytes rest ss so_far short =
-    let whole = so_far.whole in
-    so_far.parts ∙ ap (λ (l : List ℕ). flat_map section_bytes ss ++ l) (nil_from_length rest (omega arith)) ∙ append-nil (flat_map section_bytes ss)
-
--- ---- the answers of the reader of a process
-
-pub bad_length : (version : ℕ) (contents : List ℕ) → is_bad_length version (length contents / 4) ≡ true → is_bad_process version contents ≡ true
-bad_length version contents e = or_left _ _ (or_left _ _ e)
-
-pub bad_check_word : (version : ℕ) (contents : List ℕ) → is_bad_check version (drop 8 contents) ≡ true → is_bad_process version contents ≡ true
-bad_check_word version contents e = or_left _ _ (or_right _ _ e)
-
--- what stands behind the check word
-pub behind_found : (version : ℕ) (contents : List ℕ) (check : Option ℕ) (behind : List ℕ) → FrontCheck version (drop 8 contents) check behind → behind ≡ drop (sections_offset version) contents
-behind_found version contents check behind found =
-    found_behind (eqb version 2) (drop 8 contents) check behind found.has_check found.parts ∙ drop_check (eqb version 2) contents
-
-pub bad_flags : (version : ℕ) (contents : List ℕ) (check : Option ℕ) (behind : List ℕ) → FrontCheck version (drop 8 contents) check behind
-    → list_any has_unknown_flag (cut front_section behind).items ≡ true → is_bad_process version contents ≡ true
-bad_flags version contents check behind found e =
-    or_right _ _ (ap (λ (l : List ℕ). list_any has_unknown_flag (cut front_section l).items) (sym (behind_found version contents check behind found)) ∙ e)
-
 pub spells_process : (version : ℕ) (contents : List ℕ) (load entry : ℕ) (check : Option ℕ) (behind : List ℕ) (ss : List Section) → IsBytes contents → length contents % 4 ≡ 0
     → is_bad_length version (length contents / 4) ≡ false → load ≡ little_number 4 contents → entry ≡ little_number 4 (drop 4 contents)
     → FrontCheck version (drop 8 contents) check behind → behind ≡ flat_map section_bytes ss → AllByRecursion IsSection ss
     → SpellsProcess version contents (record { load = load; entry = entry; check = check; sections = ss })
 spells_process version contents load entry check behind ss fits whole good load_is entry_is found e each =
     rw (load_is, entry_is) (process_from_parts version contents check behind ss fits whole good found e each)
-
--- what a reader by offsets finds
-pub front_section_found : (bytes : List ℕ) (addr size flags : ℕ) (rest : List ℕ) → 8 ≤ length bytes → addr ≡ little_number 4 bytes → size ≡ little_number 3 (drop 4 bytes)
-    → flags ≡ get_or bytes 7 0 → rest ≡ drop 8 bytes → front_section bytes ≡ Some (record { addr = addr; size = size; flags = flags }, rest)
-front_section_found (a ∷ b ∷ c ∷ d ∷ k ∷ l ∷ m ∷ n ∷ bytes) addr size flags rest long a' s' f' r' = rw (a', s', f', r') refl
-front_section_found [] addr size flags rest long a' s' f' r' = absurd (omega arith)
-front_section_found (a ∷ []) addr size flags rest long a' s' f' r' = absurd (omega arith)
-front_section_found (a ∷ b ∷ []) addr size flags rest long a' s' f' r' = absurd (omega arith)
-front_section_found (a ∷ b ∷ c ∷ []) addr size flags rest long a' s' f' r' = absurd (omega arith)
-front_section_found (a ∷ b ∷ c ∷ d ∷ []) addr size flags rest long a' s' f' r' = absurd (omega arith)
-front_section_found (a ∷ b ∷ c ∷ d ∷ k ∷ []) addr size flags rest long a' s' f' r' = absurd (omega arith)
-front_section_found (a ∷ b ∷ c ∷ d ∷ k ∷ l ∷ []) addr size flags rest long a' s' f' r' = absurd (omega arith)
-front_section_found (a ∷ b ∷ c ∷ d ∷ k ∷ l ∷ m ∷ []) addr size flags rest long a' s' f' r' = absurd (omega arith)

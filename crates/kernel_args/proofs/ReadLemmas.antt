@@ -3,7 +3,7 @@ use Rattle.std.proofs.Common.{◌≡◌, ℕ, ◌+◌, ◌-◌, ◌*◌, ◌<◌
 use Rattle.std.specs.Prelude.{codes}
 use Rattle.std.specs.Option.{option_or, option_to_list}
 use Rattle.std.specs.List.{flat_map, AllByRecursion}
-use Rattle.std.proofs.lemmas.List.{length-append, length-map, nil_from_length, append-nil}
+use Rattle.std.proofs.lemmas.List.{length-append, length-map, nil_from_length}
 use Rattle.std.proofs.lemmas.Bool.{ne_eqb, not_from_false, eqb-false, eqb-true}
 use Rattle.kernel_args.specs.declared.args.Args.{Args}
 use Rattle.kernel_args.specs.declared.args.ProcArgs.{ProcArgs}
@@ -60,9 +60,6 @@ rest_within row rest ts e = omega (arith, ap (λ (l : List ℕ). length l) e, le
 
 tag_length : (rest : List ℕ) (t : Tag) (after : List ℕ) → FrontTag rest t after → length rest ≡ 8 + length t.contents + length after
 tag_length rest t after f = omega (arith, ap (λ (l : List ℕ). length l) f.parts, length-append (tag_bytes t) after, length-tag_bytes t f.is_tag.name)
-
-pub tag_shrinks : (rest : List ℕ) (t : Tag) (after : List ℕ) → FrontTag rest t after → length after < length rest
-tag_shrinks rest t after f = let e = tag_length rest t after f in omega arith
 
 fault_step : (b : Before) (rest : List ℕ) (t : Tag) (after : List ℕ) → FrontTag rest t after → row_fault b rest ≡ option_or (first_fault (tag_faults b t)) (row_fault (behind b t) after)
 unfolding row_fault
@@ -169,15 +166,6 @@ fault_of_none version row rest found so_far ended none_there =
     ∙ ap (λ (n : ℕ). cond (not (eqb n 0)) (at_end bad_total) (cond (eqb (length found.procs) 0) (at_end no_process) None)) ended
     ∙ ap (λ (n : ℕ). cond (eqb n 0) (at_end no_process) None) none_there
     ∙ ap (λ (o : ℕ). Some (record { what = no_process; at = o })) place
-
-pub row_ends : (version : ℕ) (row rest : List ℕ) (found : Found) → RowRead version row rest found → length rest ≡ 0 → 0 < length found.procs → SpellsRow version row found
-row_ends version row rest found so_far ended some = record {
-  tags = so_far.tags;
-  row_is = so_far.parts ∙ ap (λ (l : List ℕ). flat_map tag_bytes so_far.tags ++ l) (nil_from_length rest ended) ∙ append-nil (flat_map tag_bytes so_far.tags);
-  spells = so_far.spells;
-  some = omega arith;
-  few = so_far.few;
-}
 
 -- what a test for nothing left has told
 pub some_left : (b : Bool) (n : ℕ) → b ≡ eqb n 0 → b ≡ false → 0 < n

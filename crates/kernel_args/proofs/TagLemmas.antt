@@ -1,7 +1,7 @@
 -- The tag at the front of bytes is the tag that is spelled there.
-use Rattle.std.proofs.Common.{◌≡◌, ℕ, ◌+◌, ◌-◌, ◌*◌, ◌/◌, ◌%◌, ◌<◌, ◌≤◌, List, [], ◌∷◌, ◌++◌, length, take, drop, Option, Some, None, refl, sym, ap, subst, ◌∙◌, arith, Bool, true, false, leb, cond}
+use Rattle.std.proofs.Common.{◌≡◌, ℕ, ◌+◌, ◌-◌, ◌*◌, ◌/◌, ◌%◌, ◌<◌, ◌≤◌, List, [], ◌∷◌, ◌++◌, length, take, drop, Option, Some, None, refl, sym, ap, subst, ◌∙◌, arith, Bool, true, leb, cond}
 use Rattle.std.proofs.lemmas.List.{length-append, length-take, length-drop, take_at, drop_at, take-append-drop}
-use Rattle.std.proofs.lemmas.Bool.{le-leb, lt-leb, leb-true}
+use Rattle.std.proofs.lemmas.Bool.{le-leb, leb-true}
 use Rattle.std.proofs.lemmas.Option.{none-some, cond_some}
 use Rattle.byteorder.specs.Endian.{little_bytes, little_number}
 use Rattle.kernel_args.specs.Tags.{Tag, tag_bytes, IsTag, front_tag}
@@ -107,13 +107,6 @@ front_tag_at (n ∷ a ∷ m ∷ e ∷ []) size long e' within = absurd (omega ar
 front_tag_at (n ∷ a ∷ m ∷ e ∷ c ∷ []) size long e' within = absurd (omega arith)
 front_tag_at (n ∷ a ∷ m ∷ e ∷ c ∷ d ∷ []) size long e' within = absurd (omega arith)
 front_tag_at (n ∷ a ∷ m ∷ e ∷ c ∷ d ∷ k ∷ []) size long e' within = absurd (omega arith)
-
-pub no_front_tag : (bytes : List ℕ) → length bytes < 8 + 4 * number_at 2 6 bytes → front_tag bytes ≡ None
-no_front_tag (n ∷ a ∷ m ∷ e ∷ c ∷ d ∷ k ∷ l ∷ bytes) short =
-    let size = 4 * little_number 2 (k ∷ l ∷ []) in
-    let none : leb size (length bytes) ≡ false = lt-leb _ _ (omega arith) in
-    ap (λ (b : Bool). cond b (Some (record { name = n ∷ a ∷ m ∷ e ∷ []; check = little_number 2 (c ∷ d ∷ []); contents = take size bytes }, drop size bytes)) None) none
-no_front_tag bytes short = refl
 
 -- what a reader by offsets finds
 pub front_tag_found : (bytes : List ℕ) (check len : ℕ) (contents rest : List ℕ) → IsBytes bytes → 8 ≤ length bytes → len ≡ number_at 2 6 bytes → 4 * len ≤ length bytes - 8

@@ -23,7 +23,7 @@ use Rattle.machine_model.specs.State.Servers.{messages_of}
 use Rattle.msg_queue.specs.Seats.{Seat, seat_of}
 use Rattle.msg_queue.specs.declared.held.Held.{Held}
 use Rattle.send_path.proofs.Servers.HeldListLemmas.{of_shown}
-use Rattle.send_path.proofs.Taken.{CallParts, CallTables, taken, without_memory}
+use Rattle.send_path.proofs.Taken.{CallParts, taken}
 use Rattle.xk_parts.specs.Shown.{server_of, server_with, servers_shown}
 use Rattle.xk_parts.specs.Seats.{messages_at}
 use Rattle.xk_parts.specs.Sound.{AreLoansSound, AreSeatsSound, HasKnownSender, AreOpen, AreServersSound, IsLoanFitOf, AreSound}
@@ -40,7 +40,7 @@ use Rattle.xk_base.specs.declared.ids.Place.{Place}
 use Rattle.xk_base.specs.declared.ids.ThreadId.{ThreadId}
 use Rattle.xk_base.specs.declared.messages.Message.{Message}
 use Rattle.kill_path.proofs.Servers.OpenLemmas.{messages_shown}
-use Rattle.xk_parts.specs.Parts.{machine_at, no_store}
+use Rattle.xk_parts.specs.Parts.{machine_at}
 
 module _ (s : ℕ → Option Server) (all : Loans) (lent : AreLoansMatched all s) (numbers : (number : Number) → HasAtMostOne s (is_of_number number))
     (n : ℕ) (server : Server) (e : s n ≡ Some server) where
@@ -214,12 +214,7 @@ module _ {W : Type 0} (S : SwapStore W) (who : ThreadId) (old : CallParts W) (so
       (servers_of_matched m0 sound.matched old.tables.servers old.tables.queues refl sound.seats (loans (ledger S.held old.mem)) sound.matched.body.loans
       sound.loans)
 
--- CallParts that are sound but for the memory, with loans that a call on them left alone.
-pub tables_servers : (who : ThreadId) (old : CallTables) (all : Loans) → AreSound no_store who (without_memory old) → AreLoansMatched all (servers_shown old.servers old.queues)
-    → AreLoansSound all (servers_of old.servers) old.queues → AreServersSound (process_count old.threads) all old.servers old.queues
 unfolding machine_at
-tables_servers who old all sound lent its =
-    servers_of_matched (machine_at no_store.held who (without_memory old) sound.machine) sound.matched old.servers old.queues refl sound.seats all lent its
 
 -- what is left has sound loans
 pub open_loans : (all : Loans) (servers : Servers) (seats : List Seat) → AreOpen all servers seats

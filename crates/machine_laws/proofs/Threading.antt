@@ -1,5 +1,4 @@
 pub mod ChangedThreadLemmas
-pub mod EndStepLemmas
 pub mod EndThreadLemmas
 pub mod LikeThreadLemmas
 pub mod ThreadAnswerLemmas

@@ -1,7 +1,7 @@
 -- The calls of a ring, by what its fields are before and after.
 use Rattle.std.proofs.Common.{◌≡◌, ℕ, zero, suc, ◌<◌, ◌≤◌, false, List, [], ◌∷◌, ◌++◌, length, take, drop, set, Option, None, is_some, refl, ap, sym, subst, ◌∙◌, inl, inr, arith}
 use Rattle.std.proofs.lemmas.Bool.{cases_lt}
-use Rattle.std.proofs.lemmas.List.{take_all, drop_all, append-nil, take-append-drop, get_or_past, get_or-take, nil_from_length, length-take}
+use Rattle.std.proofs.lemmas.List.{take_all, drop_all, append-nil, take-append-drop, get_or_past, nil_from_length}
 use Rattle.std.specs.List.{remove, slice_get}
 use Rattle.xk_base.specs.Tables.RowMap.{row_map}
 use Rattle.xk_base.specs.declared.ids.Number.{Number}
@@ -130,11 +130,4 @@ all_empty slots l r e k = elim (cases_lt k 128) [
       let none' : times k (chain l.next l.held) ≡ 0 = ap (times k) (nil_from_length (chain l.next l.held) h) in
       r.filled.free_slots k (omega (arith, r.chains.each k low))
   | inr past ↦ ap is_some (get_or_past slots k None (omega (arith, r.filled.size)))
-]
-
--- and so they are after the last was let go
-pub empty_taken : (slots : List (Option Held)) (n : ℕ) → ((k : ℕ) → is_some (row_map slots k) ≡ false) → (k : ℕ) → is_some (row_map (take n slots) k) ≡ false
-empty_taken slots n h k = elim (cases_lt k n) [
-  | inl low ↦ ap is_some (get_or-take n slots k None low) ∙ h k
-  | inr past ↦ ap is_some (get_or_past (take n slots) k None (omega (arith, length-take n slots)))
 ]

@@ -18,14 +18,6 @@ use Rattle.order_model.specs.declared.choices.Choice.TheVariants.{Comes}
 use Rattle.order_model.specs.Asking.{bound_of}
 use Rattle.order_model.specs.Choosing.{comes_at, turns_at}
 
--- ---- turns
-
-pub no_turn : (asked : Asked) (m : Machine) → is_at_bound asked.bound m ≡ true → [] ≡ turns_at asked m
-no_turn asked m e = sym (ap (λ (b : Bool). if b then [] else ready_ids m) e)
-
-pub all_turns : (asked : Asked) (m : Machine) → is_at_bound asked.bound m ≡ false → ready_ids m ≡ turns_at asked m
-all_turns asked m e = sym (ap (λ (b : Bool). if b then [] else ready_ids m) e)
-
 none_or : (b : Bool) (xs : List ThreadId) → are_none (if b then [] else xs) ≡ (are_none xs || b)
 none_or true [] = refl
 none_or true (x ∷ xs) = refl

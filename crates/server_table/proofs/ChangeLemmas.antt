@@ -3,7 +3,7 @@ use Rattle.std.proofs.Common.{◌≡◌, ℕ, zero, suc, ◌+◌, ◌<◌, ◌�
 use Rattle.std.proofs.lemmas.List.Folds.{position_or_len-set}
 use Rattle.std.proofs.lemmas.List.Quantifiers.{position-Some}
 use Rattle.std.specs.Option.{option_map, option_and_then}
-use Rattle.std.proofs.lemmas.Bool.{cases_eq, both_ways, false_from_ne_true, cond-true, cond-false, eq-eqb, ne_eqb}
+use Rattle.std.proofs.lemmas.Bool.{cases_eq, both_ways, cond-true, cond-false, eq-eqb, ne_eqb}
 use Rattle.std.proofs.lemmas.List.{length-set, get_or_past, get_or-set_same, get_or-set_other}
 use Rattle.std.proofs.lemmas.Option.{none-some, same_Some}
 use Rattle.xk_base.specs.declared.limits.TheConstants.{SERVER_LIMIT}
@@ -118,13 +118,6 @@ apart_made xs next i e apart l serial new new' = record {
     ]
   ];
 }
-
-no_serial : (xs : List (Option ServerSeat)) (next j n : ℕ) → AreApart xs next → next ≤ n → has_serial n (row_map xs j) ≡ false
-no_serial xs next j n apart l = false_from_ne_true (has_serial n (row_map xs j)) (λ t.
-    let at : (e : ServerSeat) × (row_map xs j ≡ Some e) × (e.serial.0 ≡ n) = taken n (row_map xs j) t in
-    let low : at.0.serial.0 < next = apart.below j at.0 at.1 in
-    let same : at.0.serial.0 ≡ n = at.2 in
-    omega arith)
 
 pub by_serial_made : (xs : List (Option ServerSeat)) (next i : ℕ) (e : ServerSeat) → AreApart (set xs i (Some e)) (next + 1) → length xs ≡ SERVER_LIMIT
     → i < length xs → row_map xs i ≡ None → e.serial.0 ≡ next

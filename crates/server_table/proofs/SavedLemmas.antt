@@ -1,7 +1,7 @@
 -- A table that is made again from the list of its servers: names, owners and serials are as they were, and the seats
 -- close up.
 use Rattle.std.proofs.Common.{◌≡◌, ℕ, zero, suc, ◌<◌, ◌≤◌, true, List, [], ◌∷◌, length, get_or, Option, Some, None, is_some, refl, ap, sym, subst, ◌∙◌, arith}
-use Rattle.std.specs.Prelude.{◌==◌, All, AllPairs, Err, Ok, if◌then◌else◌, slice_get}
+use Rattle.std.specs.Prelude.{All, AllPairs, slice_get}
 use Rattle.std.specs.List.{Contains, cons_option, filter_map}
 use Rattle.std.specs.List.Sorted.{IsStrictlyIncreasing}
 use Rattle.std.specs.Option.{option_map}
@@ -9,19 +9,18 @@ use Rattle.std.proofs.lemmas.Bool.{false_from_ne_true}
 use Rattle.std.proofs.lemmas.List.{get_or-map, length-map}
 use Rattle.std.proofs.lemmas.List.Elements.{All-head, All-tail, All-weaker}
 use Rattle.std.proofs.lemmas.Option.{none-some, same_Some, slice_get-get_or}
-use Rattle.xk_base.specs.declared.errors.XousError.TheVariants.{ServerExists, InvalidLimit}
 use Rattle.xk_base.specs.declared.ids.Pid.{Pid}
 use Rattle.xk_base.specs.declared.ids.Sid.{Sid}
 use Rattle.xk_base.specs.declared.limits.TheConstants.{SERVER_LIMIT}
 use Rattle.xk_base.specs.Tables.RowMap.{row_map}
-use Rattle.xk_base.specs.Tables.Counting.{count_below, least_below}
-use Rattle.xk_base.specs.Tables.Sids.{is_owned_by, same_sid, serial_of, serial_with}
+use Rattle.xk_base.specs.Tables.Counting.{count_below}
+use Rattle.xk_base.specs.Tables.Sids.{same_sid}
 use Rattle.xk_base.proofs.CountingLemmas.{count_below-bound, length-listed_below}
 use Rattle.server_table.specs.declared.table.ServerSeat.{ServerSeat}
 use Rattle.server_table.specs.declared.table.Servers.{Servers}
-use Rattle.server_table.specs.Listed.{AnswersAlike, HaveTwoSids, by_list, listed_servers, rows_of, serials_of}
+use Rattle.server_table.specs.Listed.{HaveTwoSids, by_list, rows_of, serials_of}
 use Rattle.server_table.specs.ServersOf.{servers_of}
-use Rattle.server_table.specs.ServerState.{Server, live_count, live_serials, seat_view, with_sid}
+use Rattle.server_table.specs.ServerState.{Server, live_count, live_serials, seat_view}
 use Rattle.server_table.proofs.Lemmas.{live_serials-ascends, live_serials-live, live_serials-contains, sids_differ}
 use Rattle.server_table.proofs.ListedLemmas.{by_list_found, by_list_is, rows_rise}
 
@@ -88,13 +87,6 @@ rows_few t =
 pub rows_ascend : (t : Servers) → IsStrictlyIncreasing (serials_of (rows_of (servers_of t)))
 rows_ascend t = subst IsStrictlyIncreasing (sym (rows_serials t)) (live_serials-ascends (servers_of t))
 
--- .. below the next one ..
-pub rows_given : (t : Servers) → All (λ serial. serial < (servers_of t).next) (serials_of (rows_of (servers_of t)))
-rows_given t =
-    let s = servers_of t in
-    subst (All (λ serial. serial < s.next)) (sym (rows_serials t))
-    (All-weaker (λ n. (n < s.next) × (is_some (s.live n) ≡ true)) (λ n. n < s.next) (λ n h. h.0) (live_serials s) (live_serials-live s))
-
 -- .. and no two have one identifier
 pub rows_named : (t : Servers) → AllPairs HaveTwoSids (rows_of (servers_of t))
 rows_named t i j d l within =
@@ -148,39 +140,3 @@ same_servers t n = go ((servers_of t).live n) refl (by_list (rows_of (servers_of
         ∙ (λ i. Some (row.sid i, row.pid i))
         ∙ ap (λ w. Some (name_and_owner w)) same
         ∙ ap (option_map name_and_owner) (sym q)
-
-named_same : (o p : Option Server) → option_map name_and_owner o ≡ option_map name_and_owner p → option_map (λ v. v.sid) o ≡ option_map (λ v. v.sid) p
-named_same None None e = refl
-named_same None (Some w) e = absurd (none-some (name_and_owner w) e)
-named_same (Some v) None e = absurd (none-some (name_and_owner v) (sym e))
-named_same (Some v) (Some w) e = ap (λ pair. Some pair.0) (same_Some (name_and_owner v) (name_and_owner w) e)
-
-owned_same : (o p : Option Server) → option_map name_and_owner o ≡ option_map name_and_owner p → option_map (λ v. v.pid) o ≡ option_map (λ v. v.pid) p
-owned_same None None e = refl
-owned_same None (Some w) e = absurd (none-some (name_and_owner w) e)
-owned_same (Some v) None e = absurd (none-some (name_and_owner v) (sym e))
-owned_same (Some v) (Some w) e = ap (λ pair. Some pair.1) (same_Some (name_and_owner v) (name_and_owner w) e)
-
-there_same : (o p : Option Server) → option_map name_and_owner o ≡ option_map name_and_owner p → is_some o ≡ is_some p
-there_same None None e = refl
-there_same None (Some w) e = absurd (none-some (name_and_owner w) e)
-there_same (Some v) None e = absurd (none-some (name_and_owner v) (sym e))
-there_same (Some v) (Some w) e = refl
-
--- LAW: a table that is made again from the rows of another answers as that one did
-pub answers_alike : (t : Servers) → AnswersAlike (listed_servers (rows_of (servers_of t)) (servers_of t).next) (servers_of t)
-answers_alike t =
-    let s = servers_of t in
-    let again : ℕ → Option Server = by_list (rows_of s) in
-    let sids : (n : ℕ) → option_map (λ v. v.sid) (again n) ≡ option_map (λ v. v.sid) (s.live n) = λ n. named_same (again n) (s.live n) (same_servers t n) in
-    let pids : (n : ℕ) → option_map (λ v. v.pid) (again n) ≡ option_map (λ v. v.pid) (s.live n) = λ n. owned_same (again n) (s.live n) (same_servers t n) in
-    let found : (sid : Sid) → with_sid sid (listed_servers (rows_of s) s.next) ≡ with_sid sid s = λ sid i. serial_with sid s.next (λ n. sids n i) in
-    let many : live_count (listed_servers (rows_of s) s.next) ≡ live_count s =
-    λ i. count_below s.next (λ n. there_same (again n) (s.live n) (same_servers t n) i) in
-    record {
-      next_serial = refl;
-      find = found;
-      owner = pids;
-      any_of = λ pid i. option_map serial_of (least_below s.next (λ n. is_owned_by pid (pids n i)));
-      make = λ sid i. if is_some (found sid i) then Err ServerExists else (if many i == SERVER_LIMIT then Err InvalidLimit else Ok (serial_of s.next));
-    }

@@ -4,15 +4,13 @@ use Rattle.std.proofs.Common.{◌≡◌, ◌==◌, ◌+◌, ◌*◌, ◌/◌, �
 use Rattle.std.proofs.lemmas.Bool.{cases_Bool, eqb-true}
 use Rattle.std.proofs.lemmas.Option.{none-some, same_Some}
 use Rattle.xk_base.specs.Numbers.Fields.{field, bits_of}
-use Rattle.xk_base.specs.declared.ids.Frame.{Frame as FrameNumber}
 use Rattle.xk_base.specs.declared.ids.Place.{Place}
 use Rattle.xk_base.specs.declared.pages.Access.{Access}
 use Rattle.xk_base.specs.declared.pages.Access.TheVariants.{Fetch, Load, Store}
 use Rattle.xk_base.specs.declared.windows.Window.{Window}
 use Rattle.xk_base.specs.Numbers.Windows.{window_at}
-use Rattle.phys_pages.specs.Ram.{RamBytes, Area, IsPlaced, area, pages, ppn_of, frame_of}
+use Rattle.phys_pages.specs.Ram.{RamBytes, Area, IsPlaced, area, pages, ppn_of}
 use Rattle.phys_pages.specs.declared.infos.Seat.TheVariants.{Frame, Slot}
-use Rattle.phys_pages.proofs.AreaLemmas.{frame_of-ppn_of}
 use Rattle.phys_pages.proofs.WordLemmas.{words-in_frame}
 use Rattle.sv32_space.specs.declared.sides.Side.{Side}
 use Rattle.sv32_space.specs.declared.sides.Side.TheVariants.{Own, LentOut, LentIn, MutOut, MutIn}
@@ -26,8 +24,8 @@ use Rattle.sv32_space.specs.Spaces.{root_at, table_frame, table_word, root_word,
 use Rattle.sv32_space.specs.EntryReach.{side_may, reaches_if, entry_reach}
 use Rattle.sv32_space.specs.declared.sides.Entry.{Entry}
 use Rattle.sv32_space.specs.declared.sides.Entry.TheVariants.{Free, At, OnConsole}
-use Rattle.sv32_space.specs.SpelledEntries.{console_ppn, entry_of_kind, kind_for, entry_spelled, entry_in_space, entries}
-use Rattle.sv32_space.proofs.KindLemmas.{console_has_no_frame, kind_is}
+use Rattle.sv32_space.specs.SpelledEntries.{entry_of_kind, kind_for, entry_spelled, entry_in_space, entries}
+use Rattle.sv32_space.proofs.KindLemmas.{kind_is}
 use Rattle.sv32_space.proofs.SpaceLemmas.{window_of_page, mapped_entry, table_within}
 use Rattle.sv32_space.proofs.SpellingLemmas.{among_found}
 
@@ -317,16 +315,3 @@ walk_by_entry procs ram q entry va access placed fits made page found =
       where
         offset : page_offset va ≡ va % 4096
         offset = omega arith
-
--- ---- the addresses that are reached
-
-pub address_in_frame : (a : Area) (f : FrameNumber) (offset : ℕ) → f.0 < a.frames → offset < 4096
-    → frame_of a ((ppn_of a f.0 * 4096 + offset) / 4096) ≡ Some f
-address_in_frame a f offset within low =
-    let number : (ppn_of a f.0 * 4096 + offset) / 4096 ≡ ppn_of a f.0 = omega arith in
-    ap (λ n. frame_of a n) number ∙ frame_of-ppn_of a f within
-
-pub address_in_console : (a : Area) (offset : ℕ) → IsPlaced a → offset < 4096 → frame_of a ((console_ppn * 4096 + offset) / 4096) ≡ None
-address_in_console a offset placed low =
-    let number : (console_ppn * 4096 + offset) / 4096 ≡ console_ppn = omega arith in
-    ap (λ n. frame_of a n) number ∙ console_has_no_frame a placed

@@ -2,19 +2,13 @@
 //! together stand for the ledger of pages.
 #![tactic(auto)]
 
-pub mod agreement_laws;
 pub mod count_laws;
 mod entries;
-pub mod ledger_laws;
 mod place_entries;
-pub mod role_laws;
-pub mod run_laws;
 pub mod seat_laws;
 mod sides;
 pub mod small;
-pub mod space_laws;
 mod spaces;
-pub mod standing_laws;
 mod tables;
 mod walking;
 

@@ -12,8 +12,7 @@ use Rattle.xk_base.specs.declared.pages.Right.{Right}
 use Rattle.phys_pages.specs.declared.infos.LoanInfo.{LoanInfo}
 use Rattle.phys_pages.specs.declared.infos.PageInfo.{PageInfo}
 use Rattle.phys_pages.specs.declared.infos.Seat.{Seat}
-use Rattle.phys_pages.specs.declared.infos.Seat.TheVariants.{Frame, Slot}
-use Rattle.phys_pages.specs.Owners.{HasSeat, OwnerTable, extent, infos}
+use Rattle.phys_pages.specs.Owners.{OwnerTable, extent, infos}
 use Rattle.phys_pages.specs.Ram.{RamBytes, area, pages}
 use Rattle.sv32_space.specs.Agreement.{Infos, holder_side, lender_side, procs_of, right_in}
 use Rattle.sv32_space.specs.declared.sides.Side.{Side}
@@ -22,7 +21,7 @@ use Rattle.sv32_space.specs.declared.sides.Entry.TheVariants.{At}
 use Rattle.sv32_space.specs.Entries.{Entries}
 use Rattle.sv32_space.specs.PageChanges.{moved_infos, renamed, with_entry, with_info}
 use Rattle.sv32_space.specs.Spaces.{IsMade}
-use Rattle.sv32_space.specs.SpelledEntries.{IsEntry, entries}
+use Rattle.sv32_space.specs.SpelledEntries.{entries}
 use Rattle.sv32_space.specs.Tie.{agrees}
 use Rattle.sv32_space.proofs.Agreeing.PageAgreementLemmas.{move_agrees}
 use Rattle.sv32_space.proofs.Agreeing.RenamingLemmas.{renamed_lent, renamed_orphan, renamed_owned}
@@ -109,12 +108,6 @@ module _ (ram : RamBytes) (owners : OwnerTable) (agree : agrees ram owners) (fro
       (ap (λ F. F loan.holder) changed ∙ (entry_kept E home loan.holder (At lender to) apart ∙ held)) in
       written ∙ (ap (λ F. with_entry F loan.holder (At (holder_side loan.kind) to)) changed
       ∙ sym (renamed_lent procs E I from to agree.entries home loan lender (holder_side loan.kind) here named held))
-
--- a seat of the table can stand in an entry
-pub seat_fits : (ram : RamBytes) (owners : OwnerTable) → agrees ram owners → (extent owners).slots ≤ 16384 → (s : Seat) → HasSeat (extent owners) s
-    → (side : Side) → IsEntry (area ram) (At side s)
-seat_fits ram owners agree few (Frame f) within side = omega (arith, agree.last, within.1)
-seat_fits ram owners agree few (Slot s) within side = omega (arith, few, within)
 
 module _ (ram one two : RamBytes) (owners left : OwnerTable) (from to : Seat) (info : PageInfo) (agree : agrees ram owners)
     (here : infos owners from ≡ Some info) (free : infos owners to ≡ None)

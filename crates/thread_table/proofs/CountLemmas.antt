@@ -1,15 +1,10 @@
 -- Steps of a count and of a test through a reference.
-use Rattle.std.proofs.Common.{◌≡◌, ◌<◌, ◌≤◌, ℕ, ◌+◌, Bool, true, false, Option, Some, None, Bor, is_none, is_some, refl, sym, arith, zero, suc, cond, ap}
+use Rattle.std.proofs.Common.{◌≡◌, ◌<◌, ◌≤◌, ℕ, ◌+◌, Bool, true, false, Option, Some, None, Bor, is_some, refl, sym, arith, zero, suc, cond, ap}
 use Rattle.std.specs.List.{range_with_len, count_by}
 use Rattle.std.specs.Option.{MatchOption, option_copied}
 use Rattle.std.proofs.lemmas.List.Sums.{sum_by-cons}
 use Rattle.xk_base.specs.Tables.Counting.{count_below, least_below}
 use Rattle.xk_base.proofs.CountingLemmas.{least_below-Some, least_below-None}
-
--- a reference to a value is there where the value is
-pub is_none_copied : {X : Type 0} (o : Option (Bor X)) → is_none (option_copied o) ≡ is_none o
-is_none_copied None = refl
-is_none_copied (Some x) = refl
 
 pub is_some_copied : {X : Type 0} (o : Option (Bor X)) → is_some (option_copied o) ≡ is_some o
 is_some_copied None = refl

@@ -1,5 +1,5 @@
 -- The list of threads in the order of their ids, read and written as a map from the id.
-use Rattle.std.proofs.Common.{◌≡◌, ℕ, ◌<◌, true, false, List, length, set, replicate, Option, None, IsSome, is_some, ap, sym, ◌∙◌, inl, inr, arith}
+use Rattle.std.proofs.Common.{◌≡◌, ℕ, ◌<◌, true, false, List, length, set, Option, None, IsSome, is_some, ap, sym, ◌∙◌, inl, inr, arith}
 use Rattle.std.proofs.lemmas.Bool.{cases_Bool, both_ways, true_from_ne_false, cond-true, cond-false}
 use Rattle.std.proofs.lemmas.Bool.Decides.{nat_tests}
 use Rattle.std.proofs.lemmas.List.{get_or-set_same, get_or-set_other}
@@ -8,9 +8,8 @@ use Rattle.xk_base.specs.Tables.Circle.{IsPid, IsTid, is_thread_id, same_thread,
 use Rattle.xk_base.specs.Tables.Counting.{put_at}
 use Rattle.xk_base.specs.Tables.RowMap.{row_map}
 use Rattle.xk_base.proofs.CircleLemmas.{same_ids, is_thread_id-id_at, place_of-id_at, place_of-bound, id_at-place_of}
-use Rattle.xk_base.proofs.RowMapLemmas.{row_map_replicate}
 use Rattle.thread_table.specs.declared.thread.Thread.{Thread}
-use Rattle.thread_table.specs.ThreadMap.{thread_map, no_threads}
+use Rattle.thread_table.specs.ThreadMap.{thread_map}
 
 -- what stands at the place of an id is its thread
 pub thread_map_read : (n : ℕ) (xs : List (Option Thread)) (id : ThreadId) → is_thread_id n id ≡ true → thread_map n xs id ≡ row_map xs (place_of id)
@@ -69,16 +68,6 @@ thread_map_set n xs id v size h = λ i d. at d i
           ∙ sym (cond-true (same_thread d id) v (thread_map n xs d) same)
       | inr other ↦ there d (λ e. both_ways (same_thread d id) other (ap (λ x. same_thread x id) e ∙ same_thread-self id))
           ∙ sym (cond-false (same_thread d id) v (thread_map n xs d) other)
-    ]
-
--- empty places are no thread
-pub thread_map_empty : (n m : ℕ) → thread_map n (replicate m None) ≡ no_threads
-thread_map_empty n m = λ i d. at d i
-  where
-    at : (d : ThreadId) → thread_map n (replicate m None) d ≡ None
-    at d = elim (cases_Bool (is_thread_id n d)) [
-      | inl valid ↦ thread_map_read n (replicate m None) d valid ∙ ap (λ f. f (place_of d)) (row_map_replicate m)
-      | inr outside ↦ thread_map_outside n (replicate m None) d outside
     ]
 
 pub ruleset laws = (thread_map_read, thread_map_outside, thread_map_at, thread_map_valid, thread_map_set)

@@ -3,19 +3,13 @@ use Rattle.std.proofs.Common.{◌≡◌, ℕ, zero, suc, pred, ◌+◌, ◌-◌,
 use Rattle.std.proofs.lemmas.Bool.{lt-ltb, le-ltb}
 use Rattle.std.proofs.lemmas.Int.{ints}
 use Rattle.std.proofs.Math.Decide.{dec_lt}
-use Rattle.std.proofs.lemmas.Nat.{pow_pos, pow-add, mod-pow-add, shr_high, shr-shr}
+use Rattle.std.proofs.lemmas.Nat.{pow_pos, pow-add, mod-pow-add, shr_high}
 use Rattle.std.proofs.Math.Nat.{mod-lt, mod-eq_of_lt, mod-one, div-one, two-pow-succ, suc-mul, mul_assoc, mul-le-mul_right, mul-add-div_right, mul-add-mod_self_right}
 use Rattle.std.specs.Int.{w32, cast_unsigned}
 use Rattle.xk_base.specs.Numbers.Fields.{field, Drawing, bit_count, word_of, IsDrawn, drawn_like, sign_extended, FitsBits}
 
 pub field_below : (place width word : ℕ) → field place width word < 2 ^ width
 field_below place width word = mod-lt (word / 2 ^ place) (pow_pos width)
-
--- two fields side by side are one
-pub field_joined : (place low high word : ℕ) →
-    field place (high + low) word ≡ field (place + low) high word * 2 ^ low + field place low word
-field_joined place low high word =
-    rw (← shr-shr word place low) (mod-pow-add (word / 2 ^ place) high low)
 
 -- what stands in front of a number of `low` bits fits `high` bits more
 front_below : (a r high low : ℕ) → a < 2 ^ high → r < 2 ^ low → a * 2 ^ low + r < 2 ^ (high + low)

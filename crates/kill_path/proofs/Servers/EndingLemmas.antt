@@ -1,5 +1,5 @@
 -- Messages that end one after another.
-use Rattle.std.proofs.Common.{◌≡◌, ℕ, suc, ◌+◌, ◌<◌, ◌≤◌, Bool, true, false, List, [], ◌∷◌, cond, get_or, length, map, Option, Some, None, refl, sym, ap, subst, ◌∙◌, arith}
+use Rattle.std.proofs.Common.{◌≡◌, ℕ, ◌+◌, ◌<◌, ◌≤◌, Bool, true, false, List, [], ◌∷◌, cond, get_or, length, map, Option, Some, None, refl, sym, ap, subst, ◌∙◌, arith}
 use Rattle.std.specs.Prelude.{◌≢◌, ◌||◌, find, if◌then◌else◌, not, slice_get}
 use Rattle.std.specs.List.{list_any, remove}
 use Rattle.std.specs.Option.{option_map, option_map_or}
@@ -19,7 +19,7 @@ use Rattle.machine_model.proofs.Messaging.LoanSetLemmas.{both_end, none_ends, on
 use Rattle.machine_model.specs.Messaging.LoanSets.{end_loans}
 use Rattle.machine_model.specs.Messaging.MessageCounts.{count_in}
 use Rattle.machine_model.specs.Messaging.Messages.{is_of_number as is_message_of, is_sent_by}
-use Rattle.msg_queue.specs.Seats.{Seat, changed_at, is_of_number, message_of, seat_of, of_number as first_of_number, message_place, without_held_at, without_queued_at}
+use Rattle.msg_queue.specs.Seats.{Seat, changed_at, is_of_number, message_of, seat_of, of_number as first_of_number}
 use Rattle.msg_queue.specs.declared.held.Held.{Held}
 use Rattle.send_path.proofs.Servers.SeatLemmas.{changed_twice, seat_changed, seats_counted}
 use Rattle.xk_parts.specs.Seats.{messages_at}
@@ -149,43 +149,12 @@ messages_rest seat = go seat.queued
     go [] = refl
     go (x ∷ xs) = refl
 
-pub first_queued : (seat : Seat) (h : Held) → slice_get seat.queued 0 ≡ Some h → slice_get (messages_at seat) 0 ≡ Some h
-first_queued seat h e = go seat.queued e
-  where
-    go : (queued : List Held) → slice_get queued 0 ≡ Some h → slice_get (messages_at (record { queued = queued; held = seat.held })) 0 ≡ Some h
-    go [] q = absurd (none-some h q)
-    go (x ∷ xs) q = q
-
-pub without_queued_first : (seat : Seat) (h : Held) → slice_get seat.queued 0 ≡ Some h → without_queued_at 0 seat ≡ without_first seat
-without_queued_first seat h e = go seat.queued e
-  where
-    go : (queued : List Held) → slice_get queued 0 ≡ Some h
-        → without_queued_at 0 (record { queued = queued; held = seat.held }) ≡ without_first_of queued seat.held
-    go [] q = absurd (none-some h q)
-    go (x ∷ xs) q = refl
-
-pub first_held : (seat : Seat) → slice_get seat.queued 0 ≡ None → slice_get (messages_at seat) 0 ≡ slice_get seat.held 0
-first_held seat e = ap (λ xs. slice_get (messages_at (record { queued = xs; held = seat.held })) 0) (none_first seat.queued e)
-
-pub without_held_first : (seat : Seat) → slice_get seat.queued 0 ≡ None → without_held_at 0 seat ≡ without_first seat
-without_held_first seat e = go seat.queued (none_first seat.queued e)
-  where
-    go : (queued : List Held) → queued ≡ [] → without_held_at 0 (record { queued = queued; held = seat.held }) ≡ without_first_of queued seat.held
-    go [] q = refl
-    go (x ∷ xs) q = let bad : suc (length xs) ≡ 0 = ap length q in absurd (omega arith)
-
 -- the first of a list is the first of its number
 pub found_first : (hs : List Held) (h : Held) → slice_get hs 0 ≡ Some h → first_of_number h.msg.number hs ≡ Some h
 found_first [] h e = absurd (none-some h e)
 found_first (x ∷ xs) h e =
     ap (λ (y : Held). first_of_number y.msg.number (x ∷ xs)) (sym (same_Some x h e))
     ∙ ap (λ b. cond b (Some x) (find (is_of_number x.msg.number) xs)) (eq-eqb x.msg.number.0 x.msg.number.0 refl) ∙ e
-
-pub placed_first : (hs : List Held) (h : Held) → slice_get hs 0 ≡ Some h → message_place h.msg.number hs ≡ 0
-placed_first [] h e = absurd (none-some h e)
-placed_first (x ∷ xs) h e =
-    ap (λ (y : Held). message_place y.msg.number (x ∷ xs)) (sym (same_Some x h e))
-    ∙ ap (λ b. cond (not b) (1 + message_place x.msg.number xs) 0) (eq-eqb x.msg.number.0 x.msg.number.0 refl)
 
 -- ---- one after another out of a seat
 

@@ -122,12 +122,7 @@ pub forget_lawful : (procs capacity : ℕ) (pid : Pid) (l : Ledger) → IsLawful
 forget_lawful procs capacity pid l h can =
     subst (IsLawful procs capacity) (sym (forget_remove pid l)) (remove_lawful procs capacity (λ p. p.pid.0 == pid.0) l h (forgettable pid l can))
 
--- ---- reduce
-
-pub reduce_home : (places : Place → Bool) (right : Right) (l : Ledger) (p : Place)
-    → (reduce places right l).home p ≡ (if places p then option_map (with_right right) (l.home p) else l.home p)
 unfolding reduce
-reduce_home places right l p = refl
 
 reduced-loan : (right : Right) (o : Option Page) → loan_of (option_map (with_right right) o) ≡ loan_of o
 reduced-loan right None = refl
@@ -137,10 +132,7 @@ reduced-counted : (right : Right) (o : Option Page) → is_counted (option_map (
 reduced-counted right None = refl
 reduced-counted right (Some page) = refl
 
-pub reduce_orphan : (places : Place → Bool) (right : Right) (l : Ledger) (p : Place)
-    → (reduce places right l).orphan p ≡ l.orphan p
 unfolding reduce
-reduce_orphan places right l p = refl
 
 pub reduce_loans : (places : Place → Bool) (right : Right) (l : Ledger) → loans (reduce places right l) ≡ loans l
 unfolding reduce

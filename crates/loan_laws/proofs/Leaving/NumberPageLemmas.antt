@@ -61,20 +61,6 @@ orphan_of_some number (Some orphan) x e = go (same_number orphan.number number) 
     go true q r = refl
     go false q r = absurd (none-some x (sym q ∙ r))
 
--- none of the number is none
-pub lent_page_of_none : (number : Number) (o : Option Page) → of_number number (loan_of o) ≡ None → lent_page_of number o ≡ None
-lent_page_of_none number None e = refl
-lent_page_of_none number (Some page) e = go (has_number number page.loan) refl
-  where
-    go : (b : Bool) → has_number number page.loan ≡ b → (if b then Some page else None) ≡ None
-    go false q = refl
-    go true q = loaned page.loan refl q
-      where
-        loaned : (o : Option PageLoan) → page.loan ≡ o → has_number number o ≡ true → Some page ≡ None
-        loaned None f r = absurd (false≢true r)
-        loaned (Some x) f r =
-            absurd (none-some x (sym e ∙ ap (of_number number) f ∙ ap (λ b. if b then Some x else None) r))
-
 pub orphan_of_none : (number : Number) (o : Option Orphan) → orphan_of_number number (option_map loan_of_orphan o) ≡ None
     → orphan_of number o ≡ None
 orphan_of_none number None e = refl

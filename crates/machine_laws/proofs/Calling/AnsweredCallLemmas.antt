@@ -34,9 +34,7 @@ refused_at m error s later h =
     (like_changed m m.cursor (with_refusal error) h
     (λ t e. record { state = refl; pc = following-aligned t.pc (h.body.threads.pcs m.cursor t e) })) h m.cursor s later
 
-pub refused_matched : (m : Machine) (error : XousError) → Matched m → Matched (call_settled m (Refused error)).machine
 unfolding call_settled
-refused_matched m error h = refused_at m error m.steps (omega arith) h
 
 pub refused_keeps : (m : Machine) (error : XousError) → Matched m → Keeps m (Refused error)
 refused_keeps m error h = refused_at m error (m.steps + 1) (omega arith) h
@@ -46,17 +44,8 @@ pub refused_step : (m : Machine) (who : ThreadId) (words : List ℕ) (error : Xo
 refused_step m who words error h e q r =
     call_step_keeps m who words e q (subst (Keeps (turned_to who m)) (sym r) (refused_keeps (turned_to who m) error (matched_at who m h)))
 
--- ---- retried
-
-pub retried_matched : (m : Machine) → Matched m → Matched (call_settled m Retried).machine
 unfolding call_settled
-retried_matched m h = turn_keeps m h
 
 pub retried_keeps : (m : Machine) → Matched m → Keeps m Retried
 unfolding call_settled turn
 retried_keeps m h = matched_later (turn m) (turn_keeps m h) (m.steps + 1) (omega arith)
-
-pub retried_step : (m : Machine) (who : ThreadId) (words : List ℕ) → Matched m → actor m ≡ Some who
-    → call_by m who ≡ Some words → call (turned_to who m) words ≡ Retried → Matched (step m).machine
-retried_step m who words h e q r =
-    call_step_keeps m who words e q (subst (Keeps (turned_to who m)) (sym r) (retried_keeps (turned_to who m) (matched_at who m h)))

@@ -7,14 +7,12 @@ use Rattle.std.specs.Option.{option_map}
 use Rattle.std.proofs.lemmas.List.Elements.{All-head, All-tail}
 use Rattle.xk_base.specs.declared.ids.Number.{Number}
 use Rattle.xk_base.specs.declared.ids.Pid.{Pid}
-use Rattle.xk_base.specs.declared.ids.ThreadId.{ThreadId}
 use Rattle.xk_base.specs.declared.messages.Message.{Message}
 use Rattle.xk_base.proofs.CountingLemmas.{least_below-None}
 use Rattle.machine_model.specs.State.Changes.{only}
 use Rattle.machine_model.specs.Ending.Closing.{any_server, server_passes, closed, is_message_at, is_sender_at, is_queued_from, is_held_from, senderless_from, servers_closed, senders_queued_gone, senders_held_gone, without_queued_from, with_senderless_from}
 use Rattle.machine_model.specs.Ending.Ends.{death, forgotten}
 use Rattle.machine_model.specs.Messaging.Messages.{is_of_number, is_sent_from}
-use Rattle.machine_model.specs.Runs.Matched.{Matched, waits_for}
 use Rattle.machine_model.specs.State.Machine.{Machine, Server}
 use Rattle.machine_model.specs.State.Servers.{is_server_of, messages_of}
 use Rattle.machine_model.specs.State.Threads.{no_answers}
@@ -22,7 +20,6 @@ use Rattle.machine_model.proofs.Ending.ClosingLemmas.{nobody_refused}
 use Rattle.machine_model.proofs.Ending.DeathLemmas.{none_is_orphaned}
 use Rattle.machine_model.proofs.Messaging.LoanSetLemmas.{none_ends}
 use Rattle.machine_model.proofs.Matching.CountLemmas.{all_left, all_right}
-use Rattle.machine_laws.proofs.Dying.DeathLoanLemmas.{unsent}
 use Rattle.machine_laws.proofs.Messaging.ListedLemmas.{all_fail}
 
 -- ---- messages that are not from the process
@@ -127,8 +124,3 @@ module _ (m : Machine) (pid : Pid) (strange : (n : ℕ) (server : Server) → m.
       (λ i. record (none_closes i) { machine = forgotten pid (senders_held_gone pid (senders_queued_gone pid (none_closes i).machine)); gone = Some pid })
       ∙ (λ i. record (only (forgotten pid (senders_held_gone pid (none_queued i)))) { gone = Some pid })
       ∙ (λ i. record (only (forgotten pid (none_held i))) { gone = Some pid })
-
-pub lone_death : (m : Machine) → Matched m → (pid : Pid) → ((n : ℕ) (server : Server) → m.servers n ≡ Some server → (server.pid.0 == pid.0) ≡ false)
-    → ((id : ThreadId) (number : Number) → (id.pid.0 == pid.0) ≡ true → waits_for m.threads id number ≡ false)
-    → death pid m ≡ record (only (forgotten pid m)) { gone = Some pid }
-lone_death m h pid strange unwaiting = foreign_death m pid strange (unsent m h pid strange unwaiting)

@@ -54,12 +54,6 @@ step_ledger m who t e there =
     ap (λ (left : Machine). left.ledger)
     (step_of_thread m who t e there ∙ (timed_raised (counted (turned_to who m) (Some t) (acted (turned_to who m) t))).is)
 
-pub step_servers : (m : Machine) (who : ThreadId) (t : Thread) → actor m ≡ Some who → m.threads who ≡ Some t
-    → (step m).machine.servers ≡ (acted (turned_to who m) t).machine.servers
-step_servers m who t e there =
-    ap (λ (left : Machine). left.servers)
-    (step_of_thread m who t e there ∙ (timed_raised (counted (turned_to who m) (Some t) (acted (turned_to who m) t))).is)
-
 -- a matched machine settles where no more steps were counted than the one that is
 pub settles : (m next : Machine) → next.steps ≤ m.steps + 1 → Matched next → Settles m next
 settles m next le h = matched_later next h (m.steps + 1) le

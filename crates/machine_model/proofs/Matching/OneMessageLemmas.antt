@@ -50,12 +50,6 @@ one_is_there servers test h n l = elim (same_or_not n h.serial) [
   | inr other ↦ let none : count_at test (servers n) ≡ 0 = h.elsewhere n other in absurd (omega arith)
 ]
 
-pub not_none : {A : Type 0} → (servers : ℕ → Option Server) (test : Message → Bool) → HasOne servers test → HasNone servers test → A
-not_none servers test h none =
-    let here : count_at test (servers h.serial) ≡ 1 = h.here in
-    let zero : count_at test (servers h.serial) ≡ 0 = none h.serial in
-    absurd (omega arith)
-
 -- the server that has it
 pub record HasServer (servers : ℕ → Option Server) (test : Message → Bool) : Type 0 where
   pub serial : ℕ

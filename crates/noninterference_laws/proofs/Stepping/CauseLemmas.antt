@@ -4,11 +4,10 @@ use Rattle.xk_base.specs.declared.ids.ThreadId.{ThreadId}
 use Rattle.machine_model.specs.Runs.Moments.{ByIrq, ByKill, ByPick, ByStep, ByTurn, Cause}
 use Rattle.machine_model.specs.State.Machine.{Machine}
 use Rattle.machine_model.specs.State.Order.{actor}
-use Rattle.machine_model.specs.Stepping.Step.{Recorded, step, step_by}
+use Rattle.machine_model.specs.Stepping.Step.{step, step_by}
 use Rattle.machine_model.proofs.StepLemmas.{no_step}
 use Rattle.confidentiality_laws.proofs.Isolating.RunLemmas.{by_cause}
 use Rattle.confidentiality_laws.proofs.Isolating.StepLemmas.{step_of}
-use Rattle.confidentiality_laws.specs.TwoRuns.{records_by}
 use Rattle.noninterference_laws.specs.Acting.{ActsAlike}
 use Rattle.noninterference_laws.specs.Inside.{Group, SameButInside}
 use Rattle.noninterference_laws.proofs.Stepping.ShadeLemmas.{actor_shade, irq_shade, kill_shade, picked_shade, recorded_shade, shade}
@@ -44,7 +43,3 @@ module _ (group : Group) (m n : Machine) (same : SameButInside group m n) where
   cause_shade (ByIrq k) acts = irq_shade group k m n e
   cause_shade (ByKill pid) acts = kill_shade group pid m n e
   cause_shade ByTurn acts = λ i. record { machine = turn_shade group m n e i; records = [] }
-
-pub cause_records : (group : Group) (m n : Machine) → SameButInside group m n → (cause : Cause) → ActsAlike group cause m n
-    → records_by cause m ≡ records_by cause n
-cause_records group m n same cause acts = ap (λ (r : Recorded). r.records) (cause_shade group m n same cause acts)

@@ -1,10 +1,10 @@
 -- A page comes back in three steps: what each of them finds, and what a failure between them leaves.
 use Rattle.xk_ports.specs.declared.store.SwapStore.{Ghosts as SwapStore}
-use Rattle.std.proofs.Common.{◌≡◌, ℕ, ◌+◌, ◌-◌, ◌≤◌, ◌<◌, true, false, List, length, take, drop, Option, Some, None, Result, Ok, Err, refl, sym, ap, ◌∙◌, arith}
+use Rattle.std.proofs.Common.{◌≡◌, ℕ, ◌+◌, ◌-◌, ◌≤◌, ◌<◌, true, List, length, take, drop, Some, Result, Ok, Err, refl, ap, ◌∙◌, arith}
 use Rattle.std.specs.Prelude.{OnErr, is_some}
 use Rattle.std.proofs.lemmas.Bool.{and_parts}
 use Rattle.ledger_model.proofs.Stepping.MakingLemmas.{make_loans}
-use Rattle.ledger_model.proofs.Stepping.WritingLemmas.{bare-loans, bare-pages}
+use Rattle.ledger_model.proofs.Stepping.WritingLemmas.{bare-loans}
 use Rattle.ledger_model.specs.Ledger.{Homed, Ledger, pages}
 use Rattle.ledger_model.specs.Loans.{bare, loans}
 use Rattle.ledger_model.specs.Places.{is_user_place}
@@ -25,22 +25,14 @@ use Rattle.xk_base.specs.declared.ids.Place.{Place}
 use Rattle.xk_base.specs.declared.pages.Access.TheVariants.{Store}
 use Rattle.xk_base.specs.declared.pages.Right.{Right}
 use Rattle.xk_base.specs.declared.windows.Window.{Window}
-use Rattle.resume_path.proofs.Homes.ComingLemmas.{frames_same}
 use Rattle.resume_path.proofs.Homes.PageRowLemmas.{made_bytes, made_reached, made_reduced, made_there, still_made, within_writable}
 use Rattle.resume_path.proofs.Homes.StandingLemmas.{contents_long}
-use Rattle.resume_path.specs.Coming.{HasCome, KeepsSize}
+use Rattle.resume_path.specs.Coming.{HasCome}
 use Rattle.resume_path.specs.Standing.{IsHomeOf}
 
 -- a user place is one of a process, in a window
 pub user_pid : (procs : ℕ) (at : Place) → is_user_place procs at ≡ true → is_pid procs at.pid.0 ≡ true
 user_pid procs at lies = (and_parts (is_pid procs at.pid.0) (is_some (window_at at.vpn.0)) lies).0
-
-pub user_window : (procs : ℕ) (at : Place) (found : Option Window) → is_user_place procs at ≡ true → found ≡ window_at at.vpn.0 → found ≡ None → ⊥
-user_window procs at found lies is none =
-    no_window (sym (ap is_some (sym is ∙ none)) ∙ (and_parts (is_pid procs at.pid.0) (is_some (window_at at.vpn.0)) lies).1)
-  where
-    no_window : false ≡ true → ⊥
-    no_window e = absurd cc
 
 -- The memory has come to its own ledger. (What is said until there are so many pages isn't asked of it: there are fewer frames.)
 pub own_come : {W : Type 0} (S : SwapStore W) (total : ℕ) (m : Memory W) → IsSound S.slot_count m → IsUsable m
@@ -111,18 +103,3 @@ row_bytes_long file from stands = ap length (row_bytes file from) ∙ contents_l
 pub on_err : {A E : Type 0} (r : Result A E) (P : Type 0) → P → OnErr r P
 on_err (Ok x) P p = tt
 on_err (Err e) P p = p
-
--- .. comes only where the pages don't fit in frames
-pub make_full : {A E W : Type 0} (S : SwapStore W) (r : Result A E) (m : Memory W) (total : ℕ) (l : Ledger)
-    → HasCome S total m l → pages (processes m) l + 1 ≤ total → frames_for_pages m < pages (processes m) (ledger S.held m) + 1
-    → OnErr r (frames_for_pages m < total)
-make_full S r m total l come fits full =
-    let same = bare-pages (processes m) l (ledger S.held m) come.rights in
-    on_err r (frames_for_pages m < total) (omega (arith, same, fits, full))
-
-pub fill_full : {A E W : Type 0} (S : SwapStore W)
-    (r : Result A E) (m n : Memory W) (total : ℕ)
-    → KeepsSize S m n → frames_for_pages n < total → OnErr r (frames_for_pages m < total)
-fill_full S r m n total keeps full =
-    let same = frames_same S m n keeps in
-    on_err r (frames_for_pages m < total) (omega (arith, same, full))

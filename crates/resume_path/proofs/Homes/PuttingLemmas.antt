@@ -54,9 +54,6 @@ served_console : (procs : ℕ) (l : Ledger) (at : Place) → is_place_in procs M
 served_console procs l at lies free first =
     console_served procs l at (and_parts (is_pid procs at.pid.0) (in_window Map at.vpn.0) lies).1 free first
 
-pub console_pid : (procs : ℕ) (at : Place) → is_place_in procs Map at ≡ true → is_pid procs at.pid.0 ≡ true
-console_pid procs at lies = (and_parts (is_pid procs at.pid.0) (in_window Map at.vpn.0) lies).0
-
 pub console_not_refused : (procs : ℕ) (l : Ledger) (at : Place) (e : XousError) (r : Result Vpn XousError) → is_place_in procs Map at ≡ true → is_free procs l at ≡ true
     → console_mapped procs l ≡ false → r ≡ console_answer procs l at.pid (Some at.vpn) → r ≡ Err e → ⊥
 console_not_refused procs l at e r lies free first is refused = ok_err at.vpn e r (is ∙ served_console procs l at lies free first) refused

@@ -269,9 +269,4 @@ module _ (file : List ℕ) (s : State) (h : IsResumable file s) (k : ℕ) (d : P
                 let same : p ≡ at = h.matched.body.ledger.lawful.one_console p at page (ledger_page file row) f row_there g is_console_row in
                 absurd (false≢true (sym (ap (is_home_before s.pages k) same ∙ not_before) ∙ e))
 
--- ---- at both ends
-
--- with no row yet nothing is at a home
-pub no_homes_yet : (rows : List PageRow) (l : Ledger) (p : Place) → (standing (pages_before rows 0) l).home p ≡ None
 unfolding standing
-no_homes_yet rows l p = refl

@@ -3,12 +3,12 @@ use Rattle.std.proofs.Common.{◌≡◌, ℕ, zero, suc, ◌+◌, ◌-◌, ◌<�
 use Rattle.std.specs.Prelude.{◌≢◌, ◌==◌, ◌||◌, not, nat_lt, nat_le, nat_eq, is_some, position, if◌then◌else◌}
 use Rattle.std.specs.List.{AllByRecursion, list_any, list_all, position_or_len}
 use Rattle.std.specs.Option.{option_map}
-use Rattle.std.proofs.lemmas.Bool.{cases_Bool, cases_eq, cases_lt, cond-true, cond-false, eq-eqb, ne_eqb, eqb-true, leb-true, and_parts}
+use Rattle.std.proofs.lemmas.Bool.{cases_Bool, cases_eq, cases_lt, cond-true, cond-false, eq-eqb, ne_eqb, eqb-true, and_parts}
 use Rattle.std.proofs.lemmas.Bool.Decides.{nat_tests}
 use Rattle.std.proofs.lemmas.List.{get_or_default, get_or_past, length-map, length-take-le, map-append, take_more}
 use Rattle.process_table.specs.ProcessMap.{ProcessMap, change, connections_of, new_processes}
 use Rattle.process_table.specs.Shown.{process_count, processes_of}
-use Rattle.process_table.specs.State.{ProcessState, dead_process, new_process, with_connection, with_heap, connection}
+use Rattle.process_table.specs.State.{ProcessState, dead_process, new_process, with_connection, connection}
 use Rattle.process_table.specs.declared.table.Processes.{Processes}
 use Rattle.xk_parts.specs.Shown.{process_of}
 use Rattle.snapshot_matching.proofs.ProcessRows.ConnectionLemmas.{processes_matched_told}
@@ -50,9 +50,6 @@ change_twice pid f g h m same = λ i q. at q (nat_eq q pid) i
         ≡ (if b then option_map h (m pid) else m q)
     at q true = inner
     at q false = refl
-
-change_over : (pid : ℕ) (f : ProcessState → ProcessState) (m : ProcessMap) (o : Option ProcessState) → option_map f (m pid) ≡ o → change pid f m ≡ put_at nat_eq m pid o
-change_over pid f m o e = λ i q. if nat_eq q pid then e i else m q
 
 neither : (a b : Bool) → (a || b) ≡ false → (a ≡ false) × (b ≡ false)
 neither true b e = absurd cc
@@ -189,33 +186,8 @@ dead_row row dead limits =
       connections = map serial_of (sym (nothing row.serials each.1) i);
     }
 
-pub dead_back : (row : ProcRow) (pid : ℕ) (old new : ProcessMap) → old pid ≡ Some new_process → row.alive ≡ 0 → is_within_limits row ≡ true
-    → new ≡ change pid (λ p. dead_process) old → new ≡ put_at nat_eq old pid (Some (row_process row))
-dead_back row pid old new fresh dead limits after =
-    after ∙ change_over pid (λ p. dead_process) old (Some (row_process row)) (ap (option_map (λ (p : ProcessState). dead_process)) fresh ∙ ap Some (dead_row row dead limits))
-
-pub heap_unconnected : (heap pid : ℕ) (old mid : ProcessMap) → old pid ≡ Some new_process → mid ≡ change pid (with_heap heap) old → connections_of (mid pid) ≡ []
-heap_unconnected heap pid old mid fresh after =
-    ap (λ (m : ProcessMap). connections_of (m pid)) after ∙ (ap connections_of (changed_own pid (with_heap heap) old) ∙ ap (λ o. connections_of (option_map (with_heap heap) o)) fresh)
-
 abbrev with_both : ProcRow → ProcessState → ProcessState
 with_both row p = record p { heap = row.heap; connections = map serial_of row.serials }
-
-pub living_back : (row : ProcRow) (pid : ℕ) (old mid new : ProcessMap) → old pid ≡ Some new_process → row.alive ≡ 1
-    → mid ≡ change pid (with_heap row.heap) old → new ≡ change pid (with_connections (map serial_of row.serials)) mid
-    → new ≡ put_at nat_eq old pid (Some (row_process row))
-living_back row pid old mid new fresh living heap connected =
-    connected ∙ (ap (change pid (with_connections (map serial_of row.serials))) heap
-    ∙ (change_twice pid (with_connections (map serial_of row.serials)) (with_heap row.heap) (with_both row) old (λ p. refl)
-    ∙ change_over pid (with_both row) old (Some (row_process row)) (ap (option_map (with_both row)) fresh ∙ ap Some alive)))
-  where
-    alive : with_both row new_process ≡ row_process row
-    alive = λ i. record { alive = sym living i == 1; heap = row.heap; connections = map serial_of row.serials }
-
-pub few_connections : (row : ProcRow) → is_within_limits row ≡ true → length row.serials ≤ 32
-few_connections row limits =
-    let both = and_parts (nat_le (length row.serials) 32) ((row.alive == 1) || ((row.heap == 0) && (length row.serials == 0))) limits in
-    leb-true (length row.serials) 32 both.0
 
 -- ---- all processes
 

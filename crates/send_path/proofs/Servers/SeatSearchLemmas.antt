@@ -1,16 +1,11 @@
 -- The server at a seat, by its serial (server_table), and the message that is shown.
-use Rattle.std.proofs.Common.{◌≡◌, Option, Some, None, refl, sym}
+use Rattle.std.proofs.Common.{◌≡◌, Option, Some, None, refl}
 use Rattle.std.specs.Option.{option_map}
 use Rattle.std.proofs.lemmas.Option.{none-some, same_Some}
 use Rattle.msg_queue.specs.Seats.{message_of}
 use Rattle.msg_queue.specs.declared.held.Held.{Held}
 use Rattle.xk_base.specs.declared.messages.Message.{Message}
 pub use Rattle.server_table.proofs.SeatSearchLemmas.{FoundAt, found_seat, seat_found}
-
--- there is none where none is shown
-pub no_message : (o : Option Held) → option_map message_of o ≡ None → o ≡ None
-no_message None e = refl
-no_message (Some h) e = absurd (none-some h.msg (sym e))
 
 pub record IsShown (o : Option Held) (x : Message) : Type 0 where
   pub held : Held

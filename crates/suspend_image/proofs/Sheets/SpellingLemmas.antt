@@ -59,18 +59,6 @@ pub next_has_room : {A : Type 0} (spell : A → List ℕ) (rows : List A) (i : �
 next_has_room {A = A} spell rows i x start sheet is within item room =
     subst (λ (y : A). HasRoom sheet (spell y)) (sym item) (rw is (row_has_room spell rows i x start within room))
 
--- ---- rows behind their number
-
--- where each row has bytes, a word counts the rows
-pub rows_many : {A : Type 0} (spell : A → List ℕ) → ((x : A) → 1 ≤ length (spell x)) → (rows : List A) → length rows ≤ length (flat_map spell rows)
-rows_many spell some [] = omega arith
-rows_many spell some (x ∷ rows) =
-    let first = some x in
-    let others = rows_many spell some rows in
-    let all = ap (λ (bytes : List ℕ). length bytes) (flat_map-cons spell x rows) in
-    let both = length-append (spell x) (flat_map spell rows) in
-    omega arith
-
 -- ---- words
 
 pub word_bytes-nil : word_bytes [] ≡ []

@@ -37,15 +37,6 @@ used_bytes procs E I B C agree same = same_ledger (ledger_of E I C) (ledger_of E
       | inr some ↦ record { info = refl; bytes = same t some.0 some.1 }
     ]
 
--- .. so that those of a free seat don't
-pub free_bytes : (procs : ℕ) (E : Entries) (I : Infos) (B : SeatBytes) (s : Seat) (bytes : List ℕ) → EntriesAgree procs E I
-    → I s ≡ None → ledger_of E I (with_bytes B s bytes) ≡ ledger_of E I B
-free_bytes procs E I B s bytes agree free = used_bytes procs E I B (with_bytes B s bytes) agree
-    (λ t info i. seat_kept B s t bytes (λ same. clash info (sym free ∙ (sym (ap I same) ∙ i))))
-  where
-    clash : (info : PageInfo) → None ≡ Some info → ⊥
-    clash info e = cc
-
 -- rights and loans don't depend on bytes
 bare_page_same : (I : Infos) (B C : SeatBytes) (o : Option Entry)
     → option_map bare_page (option_and_then (page_of_entry I C) o) ≡ option_map bare_page (option_and_then (page_of_entry I B) o)

@@ -1,5 +1,5 @@
 -- A death, and the end of a thread, fit: they answer threads that wait, and leave the others as they stand.
-use Rattle.std.proofs.Common.{◌≡◌, ◌≢◌, ℕ, ◌⊎◌, inl, inr, Bool, true, false, Option, Some, None, refl, sym, ap, ◌∙◌, subst}
+use Rattle.std.proofs.Common.{◌≡◌, ◌≢◌, ℕ, ◌⊎◌, inl, inr, Bool, true, false, Option, None, refl, sym, ap, ◌∙◌, subst}
 use Rattle.std.specs.Prelude.{◌==◌, is_some, if◌then◌else◌}
 use Rattle.std.proofs.lemmas.Bool.{eqb-true, false≢true}
 use Rattle.xk_base.specs.declared.ids.Pid.{Pid}
@@ -45,9 +45,7 @@ no_delivery : (m : Machine) (pid : Pid) → (death pid m).delivery ≡ None
 unfolding death servers_closed closed
 no_delivery m pid = refl
 
-gone_is : (m : Machine) (pid : Pid) → (death pid m).gone ≡ Some pid
 unfolding death
-gone_is m pid = refl
 
 -- n is the state without a thread of the process, or the state itself
 module _ (m : Machine) (h : Matched m) (pid : Pid) (lives : (m.process pid.0).alive ≡ true) (before : ThreadId → Standing)

@@ -43,11 +43,6 @@ of_another b first second a e = subst (λ x. LeadsIf x first second a a) (sym e)
 pub of_itself : (b : Bool) (first second : Standing) → b ≡ true → LeadsIf b first second first second
 of_itself b first second e = subst (λ x. LeadsIf x first second first second) (sym e) (refl, refl)
 
--- a record that leaves a free thread free
-pub of_free : (b : Bool) → LeadsIf b Free Free Free Free
-of_free true = (refl, refl)
-of_free false = refl
-
 -- ---- replies
 
 module _ (who : ThreadId) (answers : Answers) where

@@ -24,12 +24,6 @@ use Rattle.transcript_laws.proofs.Ordering.PairLemmas.{pairs_tail, pairs_to_map}
 abbrev pub IsOrdered : List What → Type 0
 IsOrdered told = AllPairs IsBefore told
 
--- ---- ranks
-
--- records of a lower kind stand before those of a higher one
-pub lower_kind : (a b : What) → (rank a).kind < (rank b).kind → IsBefore a b
-lower_kind a b l = inl l
-
 -- one before another and that before a third
 pub before_both : (a b c : What) → IsBefore a b → IsBefore b c → IsBefore a c
 before_both a b c (inl p) (inl q) = inl (omega arith)

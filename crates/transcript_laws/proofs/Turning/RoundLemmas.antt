@@ -126,11 +126,4 @@ next_nearer m c d here there ready apart = go (next_ready m c) refl
           | inr more ↦ more
         ])
 
--- .. and it is an id of the machine
-pub next_known : (m : Machine) (c : ThreadId) → is_thread_id m.processes c ≡ true → is_thread_id m.processes (unwrap_or (next_ready m c) c) ≡ true
 unfolding next_ready
-next_known m c here = go (next_ready m c) refl
-  where
-    go : (o : Option ThreadId) → next_ready m c ≡ o → is_thread_id m.processes (unwrap_or o c) ≡ true
-    go None e = here
-    go (Some next) e = next_id-valid m.processes (ready_at m) c next e

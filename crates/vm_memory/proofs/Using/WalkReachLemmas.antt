@@ -7,13 +7,11 @@ use Rattle.xk_base.specs.Numbers.Windows.{page_of}
 use Rattle.xk_base.specs.declared.ids.Frame.{Frame as FrameNumber}
 use Rattle.xk_base.specs.declared.ids.Pid.{Pid}
 use Rattle.xk_base.specs.declared.ids.Place.{Place}
-use Rattle.xk_base.specs.declared.ids.Slot.{Slot as SlotNumber}
 use Rattle.xk_base.specs.declared.pages.Access.{Access}
 use Rattle.phys_pages.specs.declared.infos.Seat.TheVariants.{Frame, Slot}
 use Rattle.phys_pages.specs.Owners.{infos}
 use Rattle.phys_pages.specs.Ram.{Area, area, frame_of}
 use Rattle.ledger_model.specs.Reach.{owner_may, reach}
-use Rattle.sv32_space.specs.declared.sides.Side.{Side}
 use Rattle.sv32_space.specs.declared.sides.Entry.{Entry}
 use Rattle.sv32_space.specs.declared.sides.Entry.TheVariants.{Free, At, OnConsole}
 use Rattle.sv32_space.specs.EntryReach.{entry_may, side_may, entry_name}
@@ -60,22 +58,6 @@ given_entry (Some (OnConsole w)) access = by_given (owner_may (record { w = w; x
     by_given : (b : Bool) → is_given_target (if b then Console else Nothing) ≡ (b && true)
     by_given true = refl
     by_given false = refl
-
--- .. so that it leads wherever it gives the access, if it names no slot
-pub near_target : (o : Option Entry) (access : Access) → ((side : Side) (s : SlotNumber) → o ≡ Some (At side (Slot s)) → ⊥)
-    → is_given_target (entry_target o access) ≡ entry_may o access
-near_target o access near = given_entry o access ∙ by_slot o near
-  where
-    kept : (b : Bool) → (b && true) ≡ b
-    kept true = refl
-    kept false = refl
-
-    by_slot : (o : Option Entry) → ((side : Side) (s : SlotNumber) → o ≡ Some (At side (Slot s)) → ⊥) → (entry_may o access && not (names_slot o)) ≡ entry_may o access
-    by_slot None near = refl
-    by_slot (Some Free) near = refl
-    by_slot (Some (At side (Frame f))) near = kept (side_may side access)
-    by_slot (Some (At side (Slot s))) near = absurd (near side s refl)
-    by_slot (Some (OnConsole w)) near = kept (owner_may (record { w = w; x = false }) access)
 
 some_if : {A : Type 0} (b : Bool) (x : A) → is_some (if b then Some x else None) ≡ b
 some_if true x = refl

@@ -105,14 +105,6 @@ pub words_stay : (m n : Machine) (who : ThreadId) (t u : Thread) → n ≡ m →
 words_stay m n who t u e was is =
     ap (λ (thread : Thread). arguments_of thread.regs) (same_Some u t (sym is ∙ ap (λ (machine : Machine). machine.threads who) e ∙ was))
 
-pub never_fails : (x : Executed) → ran_of x ≡ Failed → ⊥
-never_fails (Next regs pc) e = cc
-never_fails (Stores address width value regs pc) e = cc
-never_fails (StoresToConsole offset value regs pc) e = cc
-never_fails (StoresToTimer offset width value regs pc) e = cc
-never_fails CallsKernel e = cc
-never_fails (Traps cause value) e = cc
-
 -- ---- what the thread does
 
 module _ (m : Machine) (who : ThreadId) (t : Thread) (there : m.threads who ≡ Some t) where

@@ -1,9 +1,9 @@
 -- The kernel answers those who joined a thread.
 use Rattle.xk_ports.specs.declared.store.SwapStore.{Ghosts as SwapStore}
 use Rattle.std.proofs.Common.{◌≡◌, ℕ, ◌+◌, ◌-◌, ◌*◌, ◌<◌, ◌≤◌, Bool, true, false, List, [], ◌∷◌, length, Option, Some, None, refl, sym, ap, ◌∙◌, arith, append-nil, IsTrue, subst}
-use Rattle.std.specs.Prelude.{◌&&◌, IsSome, is_some}
+use Rattle.std.specs.Prelude.{◌&&◌, is_some}
 use Rattle.std.specs.Option.{option_map, option_map_or}
-use Rattle.std.proofs.lemmas.Bool.{eq-eqb, false≢true}
+use Rattle.std.proofs.lemmas.Bool.{eq-eqb}
 use Rattle.machine_model.specs.State.Changes.{answering, replies, settled}
 use Rattle.machine_model.specs.Ending.Ends.{is_joining, joiners_answered, waits_for_end}
 use Rattle.machine_model.specs.State.Machine.{Machine, Thread}
@@ -43,10 +43,6 @@ pub record HasAnswered {W : Type 0} (S : SwapStore W) (old new : Kernel W) (who 
 as_joined : (who : ThreadId) (j : ℕ) (o : Option Thread) → option_map_or (λ t. is_joining who.tid t.state) o false ≡ waits_for_end who (thread_id who.pid j) o
 as_joined who j None = refl
 as_joined who j (Some t) = sym (ap (λ b. b && is_joining who.tid t.state) (eq-eqb who.pid.0 who.pid.0 refl))
-
-pub joining_is_there : (who : ThreadId) (o : Option Thread) → option_map_or (λ t. is_joining who.tid t.state) o false ≡ true → IsSome o
-joining_is_there who None e = absurd (false≢true e)
-joining_is_there who (Some t) e = refl
 
 module _ {W : Type 0} (S : SwapStore W) (old : Kernel W) (who : ThreadId) (a0 : ℕ) where
   abbrev m : Machine

@@ -1,9 +1,8 @@
 -- The kernel with a memory that has the same rights and loans.
 use Rattle.xk_ports.specs.declared.store.SwapStore.{Ghosts as SwapStore}
-use Rattle.std.proofs.Common.{◌≡◌, IsSome, refl, sym, ap, ◌∙◌}
+use Rattle.std.proofs.Common.{◌≡◌, refl, sym, ap, ◌∙◌}
 use Rattle.boot_plan.specs.Capacity.{capacity}
 use Rattle.xk_base.specs.declared.ids.Pid.{Pid}
-use Rattle.xk_base.specs.declared.ids.ThreadId.{ThreadId}
 use Rattle.xk_base.specs.Tables.Circle.{is_thread_id}
 use Rattle.ledger_model.specs.Loans.{loans}
 use Rattle.ledger_model.proofs.Stepping.WritingLemmas.{bare-loans}
@@ -30,11 +29,7 @@ memory_machine held k mem e =
     let procs : processes mem ≡ processes k.mem = ap (λ (s : Size). s.procs) e in
     λ i. record (machine_of held k) { capacity = room i; processes = procs i; ledger = ledger held mem }
 
--- its threads are the same
-pub there_with : {W : Type 0} (held : W → Held) (k : Kernel W) (mem : Memory W) (who : ThreadId)
-    → IsSome ((machine_of held k).threads who) → IsSome ((machine_of held (with_memory mem k)).threads who)
 unfolding machine_of
-there_with held k mem who h = h
 
 -- ---- soundness
 

@@ -1,6 +1,5 @@
 -- The parts of a call, put together.
 use Rattle.std.proofs.Common.{◌≡◌, ◌≤◌, inl, inr, ℕ, Bool, List, [], ◌∷◌, ◌++◌, Option, true, false, sym, ap, ◌∙◌, subst, arith}
-use Rattle.std.specs.Option.{option_map}
 use Rattle.xk_base.specs.Outside.{Rose}
 use Rattle.xk_ports.specs.Host.{FileAsked}
 use Rattle.xk_ports.specs.Store.{StoreAsked}
@@ -9,7 +8,6 @@ use Rattle.xk_ports.specs.declared.host.FileSlot.TheVariants.{First, Second}
 use Rattle.xk_ports.proofs.ToldLemmas.{Grows-append}
 use Rattle.event_text.specs.EventFile.{input_of}
 use Rattle.machine_model.specs.State.Machine.{Machine}
-use Rattle.xous_program.specs.declared.commands.command.CommandWords.{CommandWords}
 use Rattle.event_player.specs.declared.telling.Telling.{Telling}
 use Rattle.event_player.specs.declared.ending.Ending.{Ending}
 use Rattle.event_player.specs.declared.ending.Ending.TheVariants.{Played, LimitMet, BadLine}
@@ -26,7 +24,7 @@ use Rattle.xous_program.specs.Outcome.Images.{plan_in}
 use Rattle.host_io.specs.Reading.{Asked, IsFile, IsTold}
 use Rattle.host_io.proofs.ToldLemmas.{front_later, front_longer}
 use Rattle.event_player.specs.Telling.{closing, output, told}
-use Rattle.xous_program.specs.Words.{Command, Play, command_in}
+use Rattle.xous_program.specs.Words.{Play}
 use Rattle.event_player.specs.Writing.{Wrote}
 
 -- a count that rose later rose
@@ -243,7 +241,3 @@ ends_booted play booted files before call side same starts first last stays late
     let S : Told → Type 0 = λ f. Starts play f booted side in
     let P : Told → Type 0 = λ f. EndsPlay play (begun_at f before call) in
     subst P same (ends_earlier play booted before call side (subst S (sym same) starts) first last stays later asked read ended)
-
-pub ends_as_read : (read : Option CommandWords) (command : Option Command) (call : Call) → option_map command_in read ≡ command → Ends (option_map command_in read) call → Ends command call
-ends_as_read read command call same ends =
-    let P : Option Command → Type 0 = λ c. Ends c call in subst P same ends
