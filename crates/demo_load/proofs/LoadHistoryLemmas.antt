@@ -138,8 +138,6 @@ pub load_meets_no_limit : (clients : ℕ) → clients ≤ 31 → (load_history c
 unfolding start
 load_meets_no_limit clients few = (history_unmet (1000 * clients) DEFAULT_STEPS (load_machine clients) (omega arith)).0
 
-unfolding start
-
 -- ---- a state with more pages than there are frames for
 
 -- a history of more events has the same states

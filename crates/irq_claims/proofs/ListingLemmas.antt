@@ -19,5 +19,3 @@ claimed_numbers-claimed m = listed_below-passes INTERRUPT_LIMIT (λ k. is_some (
 -- .. and each of them
 pub claimed_numbers-contains : (m : ClaimMap) (k : ℕ) (claim : Claim) → k < INTERRUPT_LIMIT → m k ≡ Some claim → Contains (claimed_numbers m) k
 claimed_numbers-contains m k claim l here = listed_below-contains INTERRUPT_LIMIT k (λ j. is_some (m j)) l (ap is_some here)
-
-unfolding claims_of

@@ -214,8 +214,6 @@ module _ {W : Type 0} (S : SwapStore W) (who : ThreadId) (old : CallParts W) (so
       (servers_of_matched m0 sound.matched old.tables.servers old.tables.queues refl sound.seats (loans (ledger S.held old.mem)) sound.matched.body.loans
       sound.loans)
 
-unfolding machine_at
-
 -- what is left has sound loans
 pub open_loans : (all : Loans) (servers : Servers) (seats : List Seat) → AreOpen all servers seats
     → AreLoansSound all (servers_of servers) seats

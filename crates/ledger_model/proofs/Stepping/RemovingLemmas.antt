@@ -122,8 +122,6 @@ pub forget_lawful : (procs capacity : ℕ) (pid : Pid) (l : Ledger) → IsLawful
 forget_lawful procs capacity pid l h can =
     subst (IsLawful procs capacity) (sym (forget_remove pid l)) (remove_lawful procs capacity (λ p. p.pid.0 == pid.0) l h (forgettable pid l can))
 
-unfolding reduce
-
 reduced-loan : (right : Right) (o : Option Page) → loan_of (option_map (with_right right) o) ≡ loan_of o
 reduced-loan right None = refl
 reduced-loan right (Some page) = refl
@@ -131,8 +129,6 @@ reduced-loan right (Some page) = refl
 reduced-counted : (right : Right) (o : Option Page) → is_counted (option_map (with_right right) o) ≡ is_counted o
 reduced-counted right None = refl
 reduced-counted right (Some page) = refl
-
-unfolding reduce
 
 pub reduce_loans : (places : Place → Bool) (right : Right) (l : Ledger) → loans (reduce places right l) ≡ loans l
 unfolding reduce

@@ -34,8 +34,6 @@ refused_at m error s later h =
     (like_changed m m.cursor (with_refusal error) h
     (λ t e. record { state = refl; pc = following-aligned t.pc (h.body.threads.pcs m.cursor t e) })) h m.cursor s later
 
-unfolding call_settled
-
 pub refused_keeps : (m : Machine) (error : XousError) → Matched m → Keeps m (Refused error)
 refused_keeps m error h = refused_at m error (m.steps + 1) (omega arith) h
 
@@ -43,8 +41,6 @@ pub refused_step : (m : Machine) (who : ThreadId) (words : List ℕ) (error : Xo
     → call_by m who ≡ Some words → call (turned_to who m) words ≡ Refused error → Matched (step m).machine
 refused_step m who words error h e q r =
     call_step_keeps m who words e q (subst (Keeps (turned_to who m)) (sym r) (refused_keeps (turned_to who m) error (matched_at who m h)))
-
-unfolding call_settled
 
 pub retried_keeps : (m : Machine) → Matched m → Keeps m Retried
 unfolding call_settled turn

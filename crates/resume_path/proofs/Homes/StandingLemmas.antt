@@ -268,5 +268,3 @@ module _ (file : List ℕ) (s : State) (h : IsResumable file s) (k : ℕ) (d : P
             go Console g =
                 let same : p ≡ at = h.matched.body.ledger.lawful.one_console p at page (ledger_page file row) f row_there g is_console_row in
                 absurd (false≢true (sym (ap (is_home_before s.pages k) same ∙ not_before) ∙ e))
-
-unfolding standing

@@ -45,8 +45,6 @@ no_delivery : (m : Machine) (pid : Pid) → (death pid m).delivery ≡ None
 unfolding death servers_closed closed
 no_delivery m pid = refl
 
-unfolding death
-
 -- n is the state without a thread of the process, or the state itself
 module _ (m : Machine) (h : Matched m) (pid : Pid) (lives : (m.process pid.0).alive ≡ true) (before : ThreadId → Standing)
     (stood : (id : ThreadId) → StoodAs m pid before id) (n : Machine) (processes : n.processes ≡ m.processes) (process : (k : ℕ) → n.process k ≡ m.process k)

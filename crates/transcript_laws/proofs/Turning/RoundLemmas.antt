@@ -125,5 +125,3 @@ next_nearer m c d here there ready apart = go (next_ready m c) refl
           | inl less ↦ absurd (false≢true (sym (next_id-first m.processes (ready_at m) c next cursor e d there less) ∙ ready))
           | inr more ↦ more
         ])
-
-unfolding next_ready

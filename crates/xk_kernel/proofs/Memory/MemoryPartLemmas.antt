@@ -29,8 +29,6 @@ memory_machine held k mem e =
     let procs : processes mem ≡ processes k.mem = ap (λ (s : Size). s.procs) e in
     λ i. record (machine_of held k) { capacity = room i; processes = procs i; ledger = ledger held mem }
 
-unfolding machine_of
-
 -- ---- soundness
 
 module _ {W : Type 0} (S : SwapStore W)
