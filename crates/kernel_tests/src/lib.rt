@@ -8,16 +8,21 @@ mod claims;
 mod expecting;
 #[cfg(test)]
 mod first_run;
+#[cfg(test)]
 mod loan_runs;
+#[cfg(test)]
 mod loans;
 #[cfg(test)]
 mod processes;
+#[cfg(test)]
 mod queues;
 #[cfg(test)]
 mod ring;
 #[cfg(test)]
 mod servers;
+#[cfg(test)]
 mod slots;
+#[cfg(test)]
 mod small_space;
 #[cfg(test)]
 mod threads;
