@@ -7,6 +7,8 @@ import shutil
 import subprocess
 import tempfile
 
+from sources import libraries
+
 PARTS = ("src", "specs", "proofs")
 KEPT = "out/incremental"
 # Parts of a function's line that speak of another function.
@@ -28,8 +30,7 @@ class Crate:
 
     def __init__(self, root, name, kit):
         self.folder, self.name, self.kit = root / "crates" / name, name, kit
-        lines = re.findall(r"^(\w+)\b[^:\n]*:(.*)$", (root / "crates.txt").read_text(), re.M)
-        self.lists = {name: below.split() for name, below in lines}
+        self.lists = libraries.of_crates(root)
 
     def below(self):
         """The repository's libraries that the crate rests on."""

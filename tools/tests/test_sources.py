@@ -1,9 +1,9 @@
-"""What tools are told by the sources: numbers of calls, the files of a call, and lines that stand twice."""
+"""What tools are told by the sources: numbers of calls, the files of a call, lines that stand twice, and libraries."""
 
 import shutil
 from unittest import mock
 
-from sources import calls, doubles, places
+from sources import calls, doubles, libraries, places
 from xous import names, numbers
 
 from .frame import ROOT, Case
@@ -48,9 +48,10 @@ class Calls(Case):
 
     def test_files_of_a_call(self):
         rows = list(places.rows(["xk_base", "syscall_codec", "trace_text"]))
-        self.assertIn("| `xk_base` | specs/Calls/CallNumbers, specs/Calls/CallWords |", rows)
-        self.assertTrue(any(row.startswith("| `syscall_codec` | src/calls, src/encode, ") for row in rows))
-        self.assertFalse(any("trace_text" in row for row in rows))
+        codec = next(row for row in rows if row.startswith("| `syscall_codec` | src/calls, src/encode, "))
+        self.assertIn(", specs/CallNumbers, specs/CallWords, ", codec)
+        self.assertFalse(any("xk_base" in row or "trace_text" in row for row in rows))
+        self.assertRegex(rows[-1], r"^GetProcessId: \d+ files, DecreaseHeap: \d+ files\.$")
 
 
 class Doubles(Case):
@@ -80,3 +81,21 @@ class Doubles(Case):
         self.assertEqual(self.found(), [])
         self.write("one/specs/Lib.antt", ["x"] * 16)
         self.assertEqual(len(self.found()), 8)
+
+
+class Libraries(Case):
+    def write(self, crate, name, line):
+        path = self.folder / "crates" / crate / name
+        path.parent.mkdir(parents=True, exist_ok=True)
+        path.write_text(f"{line}\n")
+
+    def test_unused(self):
+        self.assertEqual(list(libraries.unused()), [])
+        (self.folder / "crates.txt").write_text("# lowest first\nlow:\nmiddle: low hex\ntop: low middle hex\n")
+        self.write("middle", "src/lib.rt", "use low::Low;")
+        self.write("middle", "proofs/Inner/Lemmas.antt", "use Rattle.hex.specs.Digits.{digit}")
+        self.write("top", "specs/Lib.antt", "use Rattle.low.specs.Lib.{low}")
+        self.write("top", "src/lib.rt", "//! The top of middle and hex.")
+        self.assertEqual(libraries.of_crates(self.folder), {"low": [], "middle": ["low", "hex"], "top": ["low", "middle", "hex"]})
+        wanted = ["crates.txt: top doesn't use middle", "crates.txt: top doesn't use hex"]
+        self.assertEqual(list(libraries.unused(self.folder)), wanted)

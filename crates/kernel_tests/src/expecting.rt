@@ -24,11 +24,6 @@ pub fn expect_serial(rt: &impl Abort, told: Option<Serial>, wanted: Option<Seria
     assert_eq!(rt; told, wanted);
 }
 
-/// What bytes were read.
-pub fn expect_bytes(rt: &impl Abort, told: &[u8], wanted: &[u8]) {
-    assert_eq!(rt; told, wanted);
-}
-
 /// A word of memory, or a number.
 pub fn expect_word(rt: &impl Abort, told: u32, wanted: u32) {
     assert_eq!(rt; told, wanted);

@@ -2,7 +2,7 @@
 //! from top to bottom: of every state, of the order of threads, of one loan, of what is not known, of two histories, of the timer, of
 //! interrupts, of the reservation. `runs` is said of every list of steps, events and ends of turns, `histories` of what a list of
 //! events makes of a machine up to its step limit. That a suspended run goes on as the run that was not suspended speaks of the bytes
-//! of a state too, so it stands in `xousim` (`resumed_run_goes_on`).
+//! of a state too, so it stands in `program_laws` (`resumed_run_goes_on`).
 #![tactic(auto)]
 
 ghost use Rattle.std.specs.Prelude.{◌≡◌, ℕ, ◌+◌, ◌<◌, ◌≤◌, ◌⊎◌, true, false, is_some, List, ◌∷◌, ◌++◌, length, slice_get, Some, None};

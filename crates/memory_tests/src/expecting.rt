@@ -21,11 +21,6 @@ pub fn expect_word(rt: &impl Abort, told: u32, wanted: u32) {
     assert_eq!(rt; told, wanted);
 }
 
-/// The words of two entries.
-pub fn expect_words(rt: &impl Abort, told: [u32; 2], wanted: [u32; 2]) {
-    assert_eq!(rt; told, wanted);
-}
-
 /// What a process reads, if it may.
 pub fn expect_read(rt: &impl Abort, told: Option<u32>, wanted: Option<u32>) {
     assert_eq!(rt; told, wanted);
