@@ -14,10 +14,12 @@ pub mod OverLemmas
 pub mod OwnerLemmas
 pub mod PlantedLemmas
 pub mod RunLemmas
+pub mod SchedulingLemmas
 pub mod SendLemmas
 pub mod ServedLemmas
 pub mod StepLemmas
 pub mod StoreLemmas
+pub mod TickedLemmas
 pub mod TurnLemmas
 pub mod UntouchedPageLemmas
 pub mod UntouchedRunLemmas

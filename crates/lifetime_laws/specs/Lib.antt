@@ -6,6 +6,7 @@ pub mod Deeds
 pub mod Lives
 pub mod Owners
 pub mod Planted
+pub mod Scheduling
 pub mod Tracing
 pub mod Untouched
 pub mod Waiting

@@ -1,0 +1,18 @@
+//! How soon a Ready thread goes on. The definitions stand in `specs/` and the lemmas in `proofs/`; the function has no code, and its
+//! contract is the theorem.
+
+ghost use Rattle.std.specs.Prelude.{ℕ, IsTrue, List};
+ghost use Rattle.xk_base.specs.declared.events.Event.{Event};
+ghost use Rattle.xk_base.specs.Tables.Circle.{is_thread_id};
+ghost use Rattle.machine_laws.specs.HistoryMoments.{moments_of};
+ghost use Rattle.machine_model.specs.Runs.Matched.{Matched};
+ghost use Rattle.machine_model.specs.State.Machine.{Machine};
+ghost use Rattle.lifetime_laws.specs.Scheduling.{AreStepsFair, AreTicksUpTo};
+
+/// **A Ready thread goes on.** If nothing comes but ticks of 1 to `most` steps, at most `most` steps for each other thread id come before
+/// the next step of a thread that is Ready all the while. Premises: the timer starts no handler in another thread than the one that
+/// steps, and no tick ends with the yield or the retried call that gives the thread its turn.
+pub fn steps_are_fair()
+    ensures { (events : List Event) (limit most : ℕ) (start : Machine) → Matched start → IsTrue (is_thread_id start.processes start.cursor)
+        → AreTicksUpTo most events → AreStepsFair most start (moments_of events limit start) }
+{}
