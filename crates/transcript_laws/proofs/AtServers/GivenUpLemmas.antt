@@ -32,9 +32,11 @@ use Rattle.call_effects.proofs.MeantLemmas.{calls_meant}
 use Rattle.call_effects.proofs.RowLemmas.{OfRows, ◌also◌, of_row}
 use Rattle.call_effects.proofs.ServedLemmas.{OfPlan, OfServed, of_plan}
 use Rattle.loan_laws.proofs.Fates.ServedFateLemmas.{some_of}
+use Rattle.call_effects.specs.Held.{IsHeld}
+use Rattle.call_effects.proofs.HeldLemmas.{is_held}
 use Rattle.transcript_laws.specs.AtServers.{GivesUp}
 use Rattle.transcript_laws.specs.Following.{Holds, is_return_call, keeping}
-use Rattle.transcript_laws.proofs.Following.ReturnLemmas.{IsHolder, blocks_number, holder, holder_own, lends_number, was_held}
+use Rattle.transcript_laws.proofs.Following.ReturnLemmas.{blocks_number, lends_number, was_held}
 
 -- a server of the process holds the message
 pub record HasHolder (number : Number) (pid : Pid) (m : Machine) : Type 0 where
@@ -63,13 +65,13 @@ module _ (m : Machine) (h : Matched m) (w : List ℕ) where
       → HasHolder number m.cursor.pid m
   found number test numbered some =
       let x = some_of (held_by_caller m test) some in
-      let at : IsHolder m test x.0 = holder m test x.0 x.1 in
+      let at : IsHeld m test x.0 = is_held m test x.0 x.1 in
       record {
         n = at.serial.0;
         server = at.server;
         there = at.there;
-        own = holder_own m test x.0 at;
-        holds = was_held number m h test x.0 at (numbered x.0 (found_at test at.server.held x.0 at.found).4);
+        own = at.own;
+        holds = was_held number m h test x.0 at (numbered x.0 at.passes);
       }
 
   abbrev Returned : ℕ → Row → Type 0

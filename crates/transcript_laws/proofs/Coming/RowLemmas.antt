@@ -69,11 +69,12 @@ use Rattle.confidentiality_laws.proofs.Keeping.CallLemmas.{none_hold}
 use Rattle.confidentiality_laws.proofs.Keeping.DeathLemmas.{death_orphans}
 use Rattle.confidentiality_laws.proofs.Keeping.MemoryCallLemmas.{HasNoHome}
 use Rattle.confidentiality_laws.proofs.Keeping.SendCallLemmas.{run_free}
+use Rattle.call_effects.specs.Held.{IsHeld}
+use Rattle.call_effects.proofs.HeldLemmas.{is_held}
 use Rattle.transcript_laws.specs.Coming.{IsLent, IsMade, IsMoved, PagesCome, is_told_place, makes_pages}
 use Rattle.transcript_laws.specs.Serving.{IsForwarded, IsForwardedTo, IsSent, IsSentTo, IsServedBy}
 use Rattle.transcript_laws.proofs.Coming.LedgerLemmas.{end_loan_none, end_loans_none, none_comes, only_orphans, reduce_none, remove_none}
 use Rattle.transcript_laws.proofs.Coming.LedgerLemmas.{same_ledger}
-use Rattle.transcript_laws.proofs.Following.ReturnLemmas.{IsHolder, holder, holder_own}
 use Rattle.transcript_laws.proofs.Following.SendLemmas.{HasServerAt, server_there}
 use Rattle.transcript_laws.proofs.Serving.AtServerLemmas.{AreMeant, one_meant}
 use Rattle.transcript_laws.proofs.Serving.ForwardRowLemmas.{lends_of, passed_to_it}
@@ -86,7 +87,7 @@ unfolding loans
 loans_home l p = refl
 
 -- a page on loan by the number of a held lend is on loan to one of the places that the lend tells
-module _ (m : Machine) (h : Matched m) (test : Message → Bool) (x : Message) (at : IsHolder m test x) (lends : is_lend x.kind ≡ true)
+module _ (m : Machine) (h : Matched m) (test : Message → Bool) (x : Message) (at : IsHeld m test x) (lends : is_lend x.kind ≡ true)
     (sent : is_some x.sender ≡ true) where
   lent : IsMessageLent (loans m.ledger) at.server x
   lent =
@@ -376,11 +377,11 @@ module _ (cause : Cause) (by_step : cause ≡ ByStep) (m : Machine) (h : Matched
   passed_comes e first None there live apart = none_comes cause m m.ledger (same_ledger m.ledger)
   passed_comes e first (Some x) there live apart = comes
     where
-      at : IsHolder m (is_passable_of (passed_number w)) x
-      at = holder m (is_passable_of (passed_number w)) x there
+      at : IsHeld m (is_passable_of (passed_number w)) x
+      at = is_held m (is_passable_of (passed_number w)) x there
 
       passes : is_passable_of (passed_number w) x ≡ true
-      passes = (found_at (is_passable_of (passed_number w)) at.server.held x at.found).4
+      passes = at.passes
 
       sent : is_some x.sender ≡ true
       sent = (and_parts (is_lend_of (passed_number w) x) (is_some x.sender) passes).1
@@ -411,7 +412,7 @@ module _ (cause : Cause) (by_step : cause ≡ ByStep) (m : Machine) (h : Matched
           place o = record { pid = option_map_or (λ (server : Server). server.pid) o m.cursor.pid; vpn = first }
 
       from_is : record { pid = at.server.pid; vpn = x.first } ≡ from
-      from_is = ap (λ (pid : Pid). place pid) (holder_own m (is_passable_of (passed_number w)) x at)
+      from_is = ap (λ (pid : Pid). place pid) at.own
         where
           place : Pid → Place
           place pid = record { pid = pid; vpn = x.first }

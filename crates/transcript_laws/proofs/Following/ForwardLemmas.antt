@@ -33,9 +33,11 @@ use Rattle.machine_laws.proofs.Threading.ThreadPutLemmas.{alike}
 use Rattle.call_effects.specs.Effects.{arriving, at_server}
 use Rattle.call_effects.specs.Rows.MessageRows.{arrival_answers, forward_row, passed_if}
 use Rattle.call_effects.proofs.ServedLemmas.{OfPlan, done}
+use Rattle.call_effects.specs.Held.{IsHeld}
+use Rattle.call_effects.proofs.HeldLemmas.{is_held}
 use Rattle.transcript_laws.specs.Following.{Lacks, Queued, Standing, Stands, is_return_call, keeping}
 use Rattle.transcript_laws.proofs.Following.KeepLemmas.{change_elsewhere, change_here, change_same, returned_other, returned_this}
-use Rattle.transcript_laws.proofs.Following.ReturnLemmas.{IsHolder, holder, is_kept, not_queued, stood_held}
+use Rattle.transcript_laws.proofs.Following.ReturnLemmas.{is_kept, not_queued, stood_held}
 use Rattle.transcript_laws.proofs.Following.SendLemmas.{HasServerAt, arrival_other, arrival_quiet, arrival_says, arrival_this, arrived_as}
 use Rattle.transcript_laws.proofs.Following.SendLemmas.{receiver_known, server_there}
 use Rattle.transcript_laws.proofs.Following.ServedLemmas.{Follows, Quiet, ServedSays, answer_itself, one_quiet}
@@ -74,7 +76,7 @@ module _ (m : Machine) (ready : ready_at m m.cursor ≡ true) (serial : Serial) 
 -- ---- the forward
 
 module _ (number : Number) (m : Machine) (h : Matched m) (ready : ready_at m m.cursor ≡ true) (w : List ℕ) (e : call_number w ≡ forward_message)
-    (x : Message) (at : IsHolder m (is_passable_of (passed_number w)) x) (named : is_of_number (passed_number w) x ≡ true) (to : Serial) (server : Server)
+    (x : Message) (at : IsHeld m (is_passable_of (passed_number w)) x) (named : is_of_number (passed_number w) x ≡ true) (to : Serial) (server : Server)
     (there : m.servers to.0 ≡ Some server) (apart : to.0 ≢ at.serial.0) (first : Vpn) where
   abbrev next : Message
   next = with_first first x
@@ -182,15 +184,15 @@ module _ (number : Number) (m : Machine) (h : Matched m) (ready : ready_at m m.c
   by_message (Some x) there some live apart first = λ a stands.
       forwarded_says number m h ready w e x at named (unwrap_or (passed_to m cid) (serial_of 0)) live_at.server to_there distinct first _ servers refl refl a stands
     where
-      at : IsHolder m (is_passable_of (passed_number w)) x
-      at = holder m (is_passable_of (passed_number w)) x there
+      at : IsHeld m (is_passable_of (passed_number w)) x
+      at = is_held m (is_passable_of (passed_number w)) x there
 
       live_at : HasServerAt m cid
       live_at = server_there m cid live
 
       named : is_of_number (passed_number w) x ≡ true
       named =
-          let passes = and_parts (is_lend_of (passed_number w) x) (is_some x.sender) (found_at (is_passable_of (passed_number w)) at.server.held x at.found).4 in
+          let passes = and_parts (is_lend_of (passed_number w) x) (is_some x.sender) at.passes in
           (and_parts (is_of_number (passed_number w) x) (is_lend x.kind) passes.0).0
 
       to_there : m.servers (unwrap_or (passed_to m cid) (serial_of 0)).0 ≡ Some live_at.server

@@ -31,6 +31,8 @@ use Rattle.machine_laws.proofs.Returning.GivenBackLemmas.{found_at}
 use Rattle.call_effects.specs.Rows.MessageRows.{return_memory_row, return_scalar1_row, return_scalar2_row}
 use Rattle.call_effects.proofs.ServedLemmas.{OfPlan, done}
 use Rattle.loan_laws.proofs.Fates.ServedFateLemmas.{some_of}
+use Rattle.call_effects.specs.Held.{IsHeld}
+use Rattle.call_effects.proofs.HeldLemmas.{is_held}
 use Rattle.transcript_laws.specs.Following.{Held, Holds, Lacks, Over, Standing, Stands, is_message_of, is_return_call, keeping, keeping_by}
 use Rattle.transcript_laws.proofs.Following.KeepLemmas.{change_elsewhere, change_here, change_same, returned_other, returned_this}
 use Rattle.transcript_laws.proofs.Following.ReceiveLemmas.{at_most_one}
@@ -40,46 +42,7 @@ use Rattle.transcript_laws.proofs.Following.TellLemmas.{CallSays, IsQuiet, Leave
 
 -- ---- a held message
 
--- the server that holds it, as the search finds it
-pub record IsHolder (m : Machine) (test : Message → Bool) (x : Message) : Type 0 where
-  pub serial : Serial
-  pub is : holder_of m test ≡ Some serial
-  pub server : Server
-  pub there : m.servers serial.0 ≡ Some server
-  pub found : find test server.held ≡ Some x
-
-pub holder : (m : Machine) (test : Message → Bool) (x : Message) → held_by_caller m test ≡ Some x → IsHolder m test x
-holder m test x e = go (holder_of m test) refl e
-  where
-    at : (serial : Serial) → holder_of m test ≡ Some serial → (o : Option Server) → m.servers serial.0 ≡ o
-        → option_and_then (λ server. find test server.held) o ≡ Some x → IsHolder m test x
-    at serial is None there f = absurd (none-some x f)
-    at serial is (Some server) there f = record { serial = serial; is = is; server = server; there = there; found = f }
-
-    go : (o : Option Serial) → holder_of m test ≡ o → option_and_then (held_at m test) o ≡ Some x → IsHolder m test x
-    go None is f = absurd (none-some x f)
-    go (Some serial) is f = at serial is (m.servers serial.0) refl f
-
--- it is one of the caller's process
-pub holder_own : (m : Machine) (test : Message → Bool) (x : Message) (at : IsHolder m test x) → at.server.pid ≡ m.cursor.pid
-unfolding holder_of
-holder_own m test x at = go (least_below m.next_serial own_holds) refl at.is
-  where
-    own_holds : ℕ → Bool
-    own_holds n = is_server_of m.cursor.pid (m.servers n) && holds test (m.servers n)
-
-    owner : is_server_of m.cursor.pid (m.servers at.serial.0) ≡ true → at.server.pid ≡ m.cursor.pid
-    owner own =
-        let same : at.server.pid.0 ≡ m.cursor.pid.0 = eqb-true at.server.pid.0 m.cursor.pid.0 (sym (ap (is_server_of m.cursor.pid) at.there) ∙ own) in
-        λ i. record { 0 = same i }
-
-    go : (o : Option ℕ) → least_below m.next_serial own_holds ≡ o → option_map serial_of o ≡ Some at.serial → at.server.pid ≡ m.cursor.pid
-    go None q r = absurd (none-some at.serial r)
-    go (Some n) q r =
-        let passes = and_parts (is_server_of m.cursor.pid (m.servers n)) (holds test (m.servers n)) (least_below-passes m.next_serial own_holds n q) in
-        owner (ap (λ (s : Serial). is_server_of m.cursor.pid (m.servers s.0)) (sym (same_Some (serial_of n) at.serial r)) ∙ passes.0)
-
-module _ (number : Number) (m : Machine) (h : Matched m) (test : Message → Bool) (x : Message) (at : IsHolder m test x) (named : is_of_number number x ≡ true) where
+module _ (number : Number) (m : Machine) (h : Matched m) (test : Message → Bool) (x : Message) (at : IsHeld m test x) (named : is_of_number number x ≡ true) where
   abbrev server : Server
   server = at.server
 
@@ -136,14 +99,14 @@ module _ (number : Number) (m : Machine) (h : Matched m) (w : List ℕ) (test : 
   module _ (x : Message) (there : held_by_caller m test ≡ Some x) (o : Option ThreadId) (next : Machine)
       (servers : next.servers ≡ (change_server (unwrap_or (holder_of m test) (serial_of 0)) (without_held (named_number w)) m).servers)
       (count : next.next_number ≡ m.next_number) (processes : next.processes ≡ m.processes) where
-    at : IsHolder m test x
-    at = holder m test x there
+    at : IsHeld m test x
+    at = is_held m test x there
 
     abbrev k : Number
     k = named_number w
 
     is_x : is_of_number k x ≡ true
-    is_x = numbered x (found_at test at.server.held x at.found).4
+    is_x = numbered x at.passes
 
     now : next.servers ≡ (change_server at.serial (without_held k) m).servers
     now = servers ∙ ap (λ o. (change_server (unwrap_or o (serial_of 0)) (without_held k) m).servers) at.is

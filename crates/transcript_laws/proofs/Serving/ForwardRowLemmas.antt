@@ -27,9 +27,10 @@ use Rattle.machine_laws.proofs.Returning.GivenBackLemmas.{found_at}
 use Rattle.call_effects.specs.Effects.{arriving, at_server}
 use Rattle.call_effects.specs.Rows.MessageRows.{arrival_answers, forward_row, passed_if}
 use Rattle.call_effects.proofs.ServedLemmas.{OfPlan, done}
+use Rattle.call_effects.specs.Held.{IsHeld}
+use Rattle.call_effects.proofs.HeldLemmas.{is_held}
 use Rattle.transcript_laws.specs.Following.{Lacks, keeping}
 use Rattle.transcript_laws.specs.Serving.{Forwards, IsForwarded, IsForwardedTo, IsServedBy, ListStep, Lists, ServerStep, Stays}
-use Rattle.transcript_laws.proofs.Following.ReturnLemmas.{IsHolder, holder, holder_own}
 use Rattle.transcript_laws.proofs.Following.SendLemmas.{HasServerAt, arrival_kept, lend_answered, server_there}
 use Rattle.transcript_laws.proofs.Serving.AtServerLemmas.{AreMeant, Serves, both_meant}
 use Rattle.transcript_laws.proofs.Serving.ArrivalLemmas.{arrival_meant, arrival_step}
@@ -46,7 +47,7 @@ module _ (cause : Cause) (m : Machine) (h : Matched m) (w : List ℕ) (served_by
       (and_parts (is_lend_of (passed_number w) x) (is_some x.sender) passes).0).1
 
   -- the message as it arrives at the other server
-  abbrev pub passed_to_it : call_number w ≡ forward_message → (x : Message) (at : IsHolder m (is_passable_of (passed_number w)) x) (to : Serial) → to.0 ≢ at.serial.0
+  abbrev pub passed_to_it : call_number w ≡ forward_message → (x : Message) (at : IsHeld m (is_passable_of (passed_number w)) x) (to : Serial) → to.0 ≢ at.serial.0
       → passed_to m (forward_cid w) ≡ Some to → (first : Vpn) → IsForwardedTo to.0 (with_first first x) cause m
   passed_to_it e x at to apart leads first =
       let place = found_at (is_passable_of (passed_number w)) at.server.held x at.found in
@@ -57,9 +58,9 @@ module _ (cause : Cause) (m : Machine) (h : Matched m) (w : List ℕ) (served_by
         server = at.server;
         there = at.there;
         words = w;
-        served = served_by at.server.pid (sym (holder_own m (is_passable_of (passed_number w)) x at));
+        served = served_by at.server.pid (sym at.own);
         forwards = e;
-        leads = ap (λ (p : Pid). connected_to (m.process p.0).connections (forward_cid w)) (holder_own m (is_passable_of (passed_number w)) x at) ∙ leads;
+        leads = ap (λ (p : Pid). connected_to (m.process p.0).connections (forward_cid w)) at.own ∙ leads;
         apart = apart;
         place = place.0;
         held = x;
@@ -70,7 +71,7 @@ module _ (cause : Cause) (m : Machine) (h : Matched m) (w : List ℕ) (served_by
         is = refl;
       }
 
-  forwarded : (x : Message) (at : IsHolder m (is_passable_of (passed_number w)) x) (to : Serial) → to.0 ≢ at.serial.0 → (target : Server)
+  forwarded : (x : Message) (at : IsHeld m (is_passable_of (passed_number w)) x) (to : Serial) → to.0 ≢ at.serial.0 → (target : Server)
       → m.servers to.0 ≡ Some target → (first : Vpn) → call_number w ≡ forward_message → passed_to m (forward_cid w) ≡ Some to → (next : Machine)
       → next.servers ≡ (change_server to (at_server (arriving (receiver m to) (with_first first x))) (change_server at.serial (without_held x.number) m)).servers
       → (n : ℕ) → Goes next n
@@ -109,7 +110,7 @@ module _ (cause : Cause) (m : Machine) (h : Matched m) (w : List ℕ) (served_by
       -- it is at the other server then
       at_target : (keeping x.number (next.servers to.0)) ≢ Lacks
       at_target lacks =
-          arrival_kept x.number (with_first first x) (eq-eqb x.number.0 x.number.0 refl) (lend_answered x.kind (lends_of x (found_at (is_passable_of (passed_number w)) at.server.held x at.found).4)) (receiver m to) target
+          arrival_kept x.number (with_first first x) (eq-eqb x.number.0 x.number.0 refl) (lend_answered x.kind (lends_of x at.passes)) (receiver m to) target
           (sym (ap (keeping x.number) there) ∙ lacks)
         where
           there : next.servers to.0 ≡ Some arrived
@@ -144,8 +145,8 @@ module _ (cause : Cause) (m : Machine) (h : Matched m) (w : List ℕ) (served_by
     delivery = refl;
   }
     where
-      at : IsHolder m (is_passable_of (passed_number w)) x
-      at = holder m (is_passable_of (passed_number w)) x there
+      at : IsHeld m (is_passable_of (passed_number w)) x
+      at = is_held m (is_passable_of (passed_number w)) x there
 
       live_at : HasServerAt m (forward_cid w)
       live_at = server_there m (forward_cid w) live

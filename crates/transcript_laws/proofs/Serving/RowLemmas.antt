@@ -57,11 +57,13 @@ use Rattle.call_effects.proofs.MeantLemmas.{calls_meant}
 use Rattle.call_effects.proofs.RowLemmas.{OfRows, ◌also◌, of_row}
 use Rattle.call_effects.proofs.ServedLemmas.{OfPlan, OfServed, done, of_plan}
 use Rattle.loan_laws.proofs.Fates.ServedFateLemmas.{some_of}
+use Rattle.call_effects.specs.Held.{IsHeld}
+use Rattle.call_effects.proofs.HeldLemmas.{is_held}
 use Rattle.transcript_laws.specs.Answered.{words_of_return}
 use Rattle.transcript_laws.specs.Following.{is_return_call}
 use Rattle.transcript_laws.specs.Serving.{Arrives, Ends, Founded, FromQueue, IsMeant, IsReceiver, IsReturned, IsSent, IsServedBy, Returns}
 use Rattle.transcript_laws.specs.Serving.{ServerStep, Stays, Takes, is_receive}
-use Rattle.transcript_laws.proofs.Following.ReturnLemmas.{IsHolder, blocks_number, held_listed, holder, holder_own, lends_number}
+use Rattle.transcript_laws.proofs.Following.ReturnLemmas.{blocks_number, held_listed, lends_number}
 use Rattle.transcript_laws.proofs.Following.SendLemmas.{HasServerAt, sender_servers, server_there}
 use Rattle.transcript_laws.proofs.Serving.AtServerLemmas.{AreMeant, IsSendersAnswer, LoseTheirServer, LosesServer, Serves, both_meant}
 use Rattle.transcript_laws.proofs.Serving.AtServerLemmas.{none_meant, one_changes, one_meant, refused_meant}
@@ -159,9 +161,9 @@ module _ (cause : Cause) (by_step : cause ≡ ByStep) (m : Machine) (h : Matched
     sender_given : (o : Option Message) → held_by_caller m test ≡ o → (who : ThreadId) → sender_of_message o ≡ Some who → IsSendersAnswer m servers who words
     sender_given None there who sender number waits = absurd (none-some who sender)
     sender_given (Some x) there who sender number waits =
-        let at = holder m test x there in
+        let at = is_held m test x there in
         let named : x.number.0 ≡ (named_number w).0 =
-        eqb-true x.number.0 (named_number w).0 (numbered x (found_at test at.server.held x at.found).4) in
+        eqb-true x.number.0 (named_number w).0 (numbered x at.passes) in
         let same : number.0 ≡ x.number.0 = one_waited (m.threads who) number x.number waits (sender_waits m h test x at who sender) in
         inl (record {
           who = m.cursor;
@@ -190,16 +192,16 @@ module _ (cause : Cause) (by_step : cause ≡ ByStep) (m : Machine) (h : Matched
       x : (y : Message) × (held_by_caller m test ≡ Some y)
       x = some_of (held_by_caller m test) some
 
-      at : IsHolder m test x.0
-      at = holder m test x.0 x.1
+      at : IsHeld m test x.0
+      at = is_held m test x.0 x.1
 
       named : is_of_number (named_number w) x.0 ≡ true
-      named = numbered x.0 (found_at test at.server.held x.0 at.found).4
+      named = numbered x.0 at.passes
 
       given : (server : Server) → at.server ≡ server → IsReturned (named_number w) server cause m
       given server same = subst (λ (s : Server). IsReturned (named_number w) s cause m) same (record {
         words = w;
-        served = served_by at.server.pid (sym (holder_own m test x.0 at));
+        served = served_by at.server.pid (sym at.own);
         returns = returns;
         token = refl;
         held = held_listed (named_number w) m h test x.0 at named;
