@@ -1,6 +1,7 @@
 pub mod Accepting
 pub mod Answering
 pub mod AtServers
+pub mod CallKindLemmas
 pub mod Coming
 pub mod Following
 pub mod Ordering
