@@ -1,46 +1,44 @@
 -- Each served call is of one of the kinds.
-use Rattle.std.proofs.Common.{◌≡◌, ◌≢◌, ℕ, ◌<◌, Bool, true, false, List, [], ◌∷◌, ◌++◌, Option, Some, None, refl, sym, ap, ◌∙◌, subst, arith}
-use Rattle.std.specs.Prelude.{◌==◌, ◌&&◌, is_none, is_some, not, slice_index, unwrap_or}
+use Rattle.std.proofs.Common.{◌≡◌, ℕ, ◌<◌, Bool, true, false, List, [], ◌∷◌, ◌++◌, Option, Some, None, refl, sym, ap, ◌∙◌, subst, arith}
+use Rattle.std.specs.Prelude.{◌==◌, ◌&&◌, is_none, is_some, slice_index, unwrap_or}
 use Rattle.std.specs.Option.{option_and_then, option_map_or}
 use Rattle.std.proofs.lemmas.Bool.{eq-eqb, eqb-true, false≢true}
 use Rattle.std.proofs.lemmas.Option.{none-some}
 use Rattle.xk_base.specs.declared.errors.XousError.{XousError}
 use Rattle.xk_base.specs.declared.errors.XousError.TheVariants.{ServerQueueFull}
-use Rattle.xk_base.specs.declared.ids.Number.{Number}
 use Rattle.xk_base.specs.declared.ids.Place.{Place}
 use Rattle.xk_base.specs.declared.ids.Serial.{Serial}
 use Rattle.xk_base.specs.declared.ids.ThreadId.{ThreadId}
 use Rattle.xk_base.specs.declared.ids.Vpn.{Vpn}
-use Rattle.xk_base.specs.declared.limits.TheConstants.{SERVER_LIMIT}
 use Rattle.xk_base.specs.declared.messages.Message.{Message}
 use Rattle.xk_base.specs.declared.messages.MsgKind.{MsgKind}
 use Rattle.xk_base.specs.declared.messages.MsgKind.TheVariants.{Scalar}
-use Rattle.xk_base.specs.Tables.Connections.{connected_to, has_room}
+use Rattle.xk_base.specs.Tables.Connections.{connected_to}
 use Rattle.xk_base.specs.Tables.Sids.{serial_of}
 use Rattle.syscall_codec.specs.CallNumbers.{create_server_with_address, destroy_server, forward_message, receive_message, reply_message, return_memory, return_scalar1}
 use Rattle.syscall_codec.specs.CallNumbers.{return_scalar2, send_message, try_receive_message, try_send_message}
 use Rattle.syscall_codec.specs.CallWords.{call_number, forward_cid, return_address, return_size, send_cid}
 use Rattle.syscall_codec.specs.ReplyWords.{connection_words, plain_words, range_words, scalar1_words, thread_words}
 use Rattle.machine_model.specs.Calling.Calls.{call}
-use Rattle.machine_model.specs.Calling.ServerCalls.{create_server_refusals, named_server, named_sid, new_serial, own_server_refusals}
+use Rattle.machine_model.specs.Calling.ServerCalls.{create_server_refusals, named_server, named_sid, own_server_refusals}
 use Rattle.machine_model.specs.Messaging.ForwardCalls.{are_one_server, forward_refusals, is_passable_of, next_arrival, next_arrival_refusals, passable, passed_from, passed_number, passed_to}
-use Rattle.machine_model.specs.Messaging.Messages.{carries_pages, is_blocking_of, is_lend_of, oldest}
+use Rattle.machine_model.specs.Messaging.Messages.{carries_pages, is_lend_of, oldest}
 use Rattle.machine_model.specs.Messaging.ReceiveCalls.{oldest_queued}
 use Rattle.machine_model.specs.Messaging.ReturnCalls.{held_by_caller, holder_of, is_its_range, named_number, return_memory_refusals, return_scalar_refusals}
 use Rattle.machine_model.specs.Messaging.ReturnCalls.{sender_gets, sender_of_message}
 use Rattle.machine_model.specs.Messaging.SendCalls.{arrival, arrival_refusals, is_full_for, message_run, named_kind, send_refusals, sends_pages, sent_pages}
 use Rattle.machine_model.specs.Runs.LoanSpan.{is_send}
 use Rattle.machine_model.specs.Runs.Matched.{Matched}
-use Rattle.machine_model.specs.State.Changes.{Change, Served, first_refusal}
+use Rattle.machine_model.specs.State.Changes.{Change, first_refusal}
 use Rattle.machine_model.specs.State.Connections.{own_connections}
 use Rattle.machine_model.specs.State.Machine.{Machine, Server}
-use Rattle.machine_model.specs.State.Servers.{is_full, is_own, is_server_of, live_servers, server_at, with_sid}
+use Rattle.machine_model.specs.State.Servers.{is_full, is_own, is_server_of, server_at, with_sid}
 use Rattle.machine_model.specs.State.Threads.{answer_to, both_answers}
 use Rattle.machine_laws.proofs.Calling.RunRefusalLemmas.{not_false}
 use Rattle.confidentiality_laws.proofs.Keeping.CallLemmas.{none_hold}
 use Rattle.call_effects.specs.Deciding.{decide, rows}
 use Rattle.call_effects.specs.Effects.{Effect, Returned, Serves}
-use Rattle.call_effects.specs.Rows.MessageRows.{forward_row, passed_if, return_memory_row, return_scalar1_row, return_scalar2_row, returned_row, send_row, sent_to_row, taken_or, try_send_row}
+use Rattle.call_effects.specs.Rows.MessageRows.{forward_row, passed_if, return_memory_row, sent_to_row, taken_or}
 use Rattle.call_effects.specs.Rows.ServerRows.{create_server_row, destroy_row}
 use Rattle.call_effects.specs.Verdicts.{Does, Plan, Row}
 use Rattle.call_effects.proofs.HeldLemmas.{is_held}
@@ -50,7 +48,7 @@ use Rattle.call_effects.proofs.ServedLemmas.{OfPlan, OfServed, done, of_both, of
 use Rattle.loan_laws.proofs.Fates.ServedFateLemmas.{some_of}
 use Rattle.transcript_laws.specs.CallKinds.{AreOwn, CallKind, CallsAreOfKinds, DestroysServer, EndsProcess, FindsNone, FoundsServer, IsOfKind, IsPassing, IsReturning, IsSending}
 use Rattle.transcript_laws.specs.CallKinds.{Keeps, LeadsTo, NamesOwn, Nobody, PassesMessage, ReturnsMessage, SendsMessage, TakesMessage, WithWords, destroying, finding_none, is_returnable}
-use Rattle.transcript_laws.specs.CallKinds.{loan_back, passing, place_at_server, reaches_others, returning, sending, words_back}
+use Rattle.transcript_laws.specs.CallKinds.{loan_back, passing, place_at_server, reaches_others, sending, words_back}
 use Rattle.transcript_laws.specs.Following.{is_return_call}
 use Rattle.transcript_laws.specs.Serving.{is_receive}
 
@@ -102,10 +100,10 @@ module _ (m : Machine) (h : Matched m) (w : List ℕ) where
       go None names own = absurd (false≢true own)
       go (Some serial) names own = at serial names (m.servers serial.0) refl own
 
-  named_is : (its : NamesOwn m w) → its.serial ≡ named_server m (named_sid w)
+  pub named_is : (its : NamesOwn m w) → its.serial ≡ named_server m (named_sid w)
   named_is its = sym (ap (λ (o : Option Serial). unwrap_or o (serial_of 0)) its.names)
 
-  leads_to : (cid : ℕ) → is_none (server_at m cid) ≡ false → is_full (server_at m cid) ≡ false → LeadsTo m cid
+  pub leads_to : (cid : ℕ) → is_none (server_at m cid) ≡ false → is_full (server_at m cid) ≡ false → LeadsTo m cid
   leads_to cid live room = go (connected_to (own_connections m) cid) refl live room
     where
       at : (serial : Serial) → connected_to (own_connections m) cid ≡ Some serial → (o : Option Server) → m.servers serial.0 ≡ o

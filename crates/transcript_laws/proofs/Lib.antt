@@ -2,6 +2,7 @@ pub mod Accepting
 pub mod Answering
 pub mod AtServers
 pub mod CallKindLemmas
+pub mod CallKindUseLemmas
 pub mod Coming
 pub mod Following
 pub mod Ordering

@@ -1,8 +1,8 @@
 -- Whom a served call answers, and what it leaves of the threads: the caller is answered or waits, each other thread that is answered
 -- waited, and no other thread begins or ceases to wait.
-use Rattle.std.proofs.Common.{◌≡◌, ℕ, ◌+◌, ◌⊎◌, inl, inr, Bool, true, false, List, find, Option, Some, None, refl, sym, ap, ◌∙◌}
+use Rattle.std.proofs.Common.{◌≡◌, ℕ, ◌+◌, ◌⊎◌, inl, inr, Bool, true, false, List, Option, Some, None, refl, sym, ap, ◌∙◌}
 use Rattle.std.specs.Prelude.{◌&&◌, is_none, is_some, nat_eq, nat_le, unwrap_or, if◌then◌else◌}
-use Rattle.std.specs.Option.{option_and_then, option_map, option_map_or, option_or}
+use Rattle.std.specs.Option.{option_map, option_map_or, option_or}
 use Rattle.std.proofs.lemmas.Bool.{and_parts, eqb-true, false≢true}
 use Rattle.std.proofs.lemmas.Option.{none-some}
 use Rattle.xk_base.proofs.CountingLemmas.{least_below-passes}
@@ -18,11 +18,11 @@ use Rattle.machine_model.specs.Calling.ThreadCalls.{create_served, free_tid}
 use Rattle.machine_model.specs.Ending.Closing.{refused_server}
 use Rattle.machine_model.specs.Messaging.Messages.{is_sent_by}
 use Rattle.machine_model.specs.Messaging.ReceiveCalls.{received}
-use Rattle.machine_model.specs.Messaging.ReturnCalls.{held_at, held_by_caller, holder_of, sender_gets, sender_of_message}
+use Rattle.machine_model.specs.Messaging.ReturnCalls.{held_by_caller, sender_gets, sender_of_message}
 use Rattle.machine_model.specs.Messaging.SendCalls.{arrived, sender_answered, sender_left}
 use Rattle.machine_model.specs.Runs.Matched.{Matched}
 use Rattle.machine_model.specs.State.Changes.{Change, answering, only}
-use Rattle.machine_model.specs.State.Machine.{Machine, Process, Server, Thread, ThreadState, Waiting}
+use Rattle.machine_model.specs.State.Machine.{Machine, Process, Thread, ThreadState, Waiting}
 use Rattle.machine_model.specs.State.Threads.{Answers, answer_to, both_answers, change_thread, new_thread, put_thread, thread_id, with_state}
 use Rattle.machine_model.proofs.Matching.CountLemmas.{all_right}
 use Rattle.machine_laws.proofs.Returning.GivenBackLemmas.{found_at}
