@@ -1,4 +1,5 @@
 pub mod FootprintLemmas
+pub mod HeldLemmas
 pub mod LeadingLemmas
 pub mod MeantLemmas
 pub mod PartLemmas

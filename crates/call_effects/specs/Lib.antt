@@ -1,5 +1,6 @@
 pub mod Deciding
 pub mod Effects
 pub mod Footprints
+pub mod Held
 pub mod Rows
 pub mod Verdicts

@@ -35,8 +35,10 @@ use Rattle.call_effects.specs.Rows.MessageRows.{forward_row, passed_if, return_m
 use Rattle.call_effects.specs.Rows.ServerRows.{destroy_row}
 use Rattle.call_effects.proofs.ServedLemmas.{OfPlan, done}
 use Rattle.confidentiality_laws.proofs.Keeping.CallLemmas.{none_hold}
+use Rattle.machine_laws.proofs.Returning.GivenBackLemmas.{found_at}
+use Rattle.call_effects.proofs.HeldLemmas.{is_held}
 use Rattle.noninterference_laws.proofs.Seeing.HeldLemmas.{HasLoans, has_loans}
-use Rattle.noninterference_laws.proofs.Seeing.RowLemmas.{IsHeld, caller_holds, held_is, is_there, own_server}
+use Rattle.noninterference_laws.proofs.Seeing.RowLemmas.{caller_holds, is_there, own_server}
 use Rattle.loan_laws.proofs.Fates.ServedFateLemmas.{IsCaller, served_call}
 use Rattle.noninterference_laws.proofs.OrphanLemmas.{at_its_server}
 use Rattle.lifetime_laws.specs.Causes.{IsEndedBy, IsForwardedBy, Returned}
@@ -63,18 +65,19 @@ module _ (m : Machine) (who : ThreadId) (w : List ℕ) (h : Matched m) (calls : 
       → (x : Message) → held_by_caller here test ≡ Some x → (q : Place) (orphan : Orphan) → m.ledger.orphan q ≡ Some orphan
       → same_number orphan.number number ≡ true → q.pid.0 ≡ who.pid.0
   orphan_held test number numbers x e q orphan there is =
-      let held : IsHeld (λ n. true) here test x = held_is (λ n. true) here test x e in
-      let low : held.index < length held.server.held = held.low in
+      let held = is_held here test x e in
+      let place = found_at test held.server.held x held.found in
+      let low : place.0 < length held.server.held = place.2 in
       let long : length (messages_of held.server) ≡ length held.server.queued + length held.server.held =
       length-append held.server.queued held.server.held in
-      let same : get_or (messages_of held.server) (length held.server.queued + held.index) held.default ≡ x =
-      get_or-append-add held.server.queued held.server.held held.index held.default ∙ held.at in
+      let same : get_or (messages_of held.server) (length held.server.queued + place.0) place.1 ≡ x =
+      get_or-append-add held.server.queued held.server.held place.0 place.1 ∙ place.3 in
       let named : orphan.number ≡ number = same_number-true orphan.number number is in
       sym (ap (λ (k : Pid). k.0)
-      (at_its_server here loans_here q orphan there held.serial held.server held.live (length held.server.queued + held.index) held.default
-      (omega arith) (ap (λ k. is_of_number k (get_or (messages_of held.server) (length held.server.queued + held.index) held.default)) named
+      (at_its_server here loans_here q orphan there held.serial.0 held.server held.there (length held.server.queued + place.0) place.1
+      (omega arith) (ap (λ k. is_of_number k (get_or (messages_of held.server) (length held.server.queued + place.0) place.1)) named
       ∙ (ap (is_of_number number) same ∙ numbers x held.passes))))
-      ∙ held.own
+      ∙ ap (λ (k : Pid). k.0) held.own
 
   lends_numbered : (number : Number) (x : Message) → is_lend_of number x ≡ true → is_of_number number x ≡ true
   lends_numbered number x e = (and_parts (is_of_number number x) (is_lend x.kind) e).0
@@ -118,7 +121,7 @@ module _ (m : Machine) (who : ThreadId) (w : List ℕ) (h : Matched m) (calls : 
       lends : is_lend_of (passed_number w) message ≡ true
       lends =
           (and_parts (is_lend_of (passed_number w) message) (is_some message.sender)
-          (held_is (λ k. true) here (is_passable_of (passed_number w)) message e).passes).0
+          (is_held here (is_passable_of (passed_number w)) message e).passes).0
 
       forwarded_by : (n : Machine) → is_call_served m who w ≡ true → (p : Place) (loan : PageLoan) → loan_at m.ledger p ≡ Some loan
           → loan.number ≡ passed_number w

@@ -24,7 +24,8 @@ use Rattle.machine_model.specs.State.Connections.{own_connections}
 use Rattle.machine_model.specs.State.Machine.{Machine}
 use Rattle.machine_model.specs.State.Servers.{server_at}
 use Rattle.machine_laws.proofs.Threading.ThreadStepLemmas.{turned_to}
-use Rattle.noninterference_laws.proofs.Seeing.RowLemmas.{IsHeld, held_is}
+use Rattle.machine_laws.proofs.Returning.GivenBackLemmas.{found_at}
+use Rattle.call_effects.proofs.HeldLemmas.{is_held}
 use Rattle.noninterference_laws.specs.Fates.{IsAtServerOf, IsBrought, IsSend, MadeCall, Passed, Sent}
 use Rattle.noninterference_laws.proofs.OtherLemmas.{same_pid}
 
@@ -39,13 +40,14 @@ module _ (m : Machine) (who : ThreadId) (w : List ℕ) where
   pub held_there : (test : Message → Bool) (x : Message) → held_by_caller here test ≡ Some x
       → IsAtServerOf who.pid m (λ server. server.held) x × (test x ≡ true)
   held_there test x e =
-      let held : IsHeld (λ n. true) here test x = held_is (λ n. true) here test x e in (
+      let held = is_held here test x e in
+      let place = found_at test held.server.held x held.found in (
         record {
-          serial = held.serial;
+          serial = held.serial.0;
           server = held.server;
-          live = held.live;
-          own = same_pid held.server.pid who.pid held.own;
-          there = subst (Contains held.server.held) held.at (Contains-get_or held.server.held held.index held.default held.low);
+          live = held.there;
+          own = held.own;
+          there = subst (Contains held.server.held) place.3 (Contains-get_or held.server.held place.0 place.1 place.2);
         },
         held.passes,
       )

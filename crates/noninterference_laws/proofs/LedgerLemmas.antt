@@ -48,8 +48,10 @@ use Rattle.call_effects.proofs.RowLemmas.{◌also◌}
 use Rattle.call_effects.proofs.ServedLemmas.{OfPlan, OfServed, done}
 use Rattle.confidentiality_laws.proofs.Keeping.CallLemmas.{none_hold}
 use Rattle.confidentiality_laws.proofs.Keeping.MemoryCallLemmas.{HasNoHome}
+use Rattle.machine_laws.proofs.Returning.GivenBackLemmas.{found_at}
+use Rattle.call_effects.proofs.HeldLemmas.{is_held}
 use Rattle.noninterference_laws.proofs.Seeing.HeldLemmas.{HasLoans, has_loans}
-use Rattle.noninterference_laws.proofs.Seeing.RowLemmas.{IsHeld, caller_holds, held_is, is_there, own_server, this_held, to_free}
+use Rattle.noninterference_laws.proofs.Seeing.RowLemmas.{caller_holds, is_there, own_server, this_held, to_free}
 use Rattle.noninterference_laws.proofs.OrphanLemmas.{at_its_server, at_servers_of}
 use Rattle.noninterference_laws.proofs.OtherLemmas.{same_pid, server_pid}
 use Rattle.noninterference_laws.proofs.PageLemmas.{KeepsPages, end_loan_keeps, end_loans_keep, give_keeps, keeps_all, lend_keeps}
@@ -103,17 +105,18 @@ module _ (m : Machine) (who : ThreadId) (w : List ℕ) where
         → (x : Message) → held_by_caller here test ≡ Some x → (q : Place) (orphan : Orphan) → m.ledger.orphan q ≡ Some orphan
         → same_number orphan.number number ≡ true → q.pid ≡ who.pid
     orphan_held test number numbers x e q orphan there is =
-        let held : IsHeld (λ n. true) here test x = held_is (λ n. true) here test x e in
-        let low : held.index < length held.server.held = held.low in
+        let held = is_held here test x e in
+        let place = found_at test held.server.held x held.found in
+        let low : place.0 < length held.server.held = place.2 in
         let long : length (messages_of held.server) ≡ length held.server.queued + length held.server.held =
         length-append held.server.queued held.server.held in
-        let same : get_or (messages_of held.server) (length held.server.queued + held.index) held.default ≡ x =
-        get_or-append-add held.server.queued held.server.held held.index held.default ∙ held.at in
+        let same : get_or (messages_of held.server) (length held.server.queued + place.0) place.1 ≡ x =
+        get_or-append-add held.server.queued held.server.held place.0 place.1 ∙ place.3 in
         let named : orphan.number ≡ number = same_number-true orphan.number number is in
-        sym (at_its_server here h_here q orphan there held.serial held.server held.live (length held.server.queued + held.index) held.default
-        (omega arith) (ap (λ k. is_of_number k (get_or (messages_of held.server) (length held.server.queued + held.index) held.default)) named
+        sym (at_its_server here h_here q orphan there held.serial.0 held.server held.there (length held.server.queued + place.0) place.1
+        (omega arith) (ap (λ k. is_of_number k (get_or (messages_of held.server) (length held.server.queued + place.0) place.1)) named
         ∙ (ap (is_of_number number) same ∙ numbers x held.passes)))
-        ∙ same_pid held.server.pid who.pid held.own
+        ∙ held.own
 
     lends_numbered : (number : Number) (x : Message) → is_lend_of number x ≡ true → is_of_number number x ≡ true
     lends_numbered number x e = (and_parts (is_of_number number x) (is_lend x.kind) e).0
@@ -147,7 +150,7 @@ module _ (m : Machine) (who : ThreadId) (w : List ℕ) where
         lends : is_lend_of (passed_number w) message ≡ true
         lends =
             (and_parts (is_lend_of (passed_number w) message) (is_some message.sender)
-            (held_is (λ n. true) here (is_passable_of (passed_number w)) message e).passes).0
+            (is_held here (is_passable_of (passed_number w)) message e).passes).0
 
     destroy_pages : OfPlan Keeps (destroy_row here w)
     unfolding closed any_server

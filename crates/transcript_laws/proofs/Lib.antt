@@ -1,6 +1,8 @@
 pub mod Accepting
 pub mod Answering
 pub mod AtServers
+pub mod CallKindLemmas
+pub mod CallKindUseLemmas
 pub mod Coming
 pub mod Following
 pub mod Ordering

@@ -1,5 +1,5 @@
 -- With which words the sender of a message is answered.
-use Rattle.std.specs.Prelude.{◌≡◌, ◌≢◌, ℕ, ◌⊎◌, ◌==◌, true, if◌then◌else◌, List, None, Some}
+use Rattle.std.specs.Prelude.{◌≡◌, ◌≢◌, ℕ, ◌⊎◌, true, List, None, Some}
 use Rattle.std.specs.Bool.{⊤}
 use Rattle.std.specs.List.{All}
 use Rattle.xk_base.specs.declared.errors.XousError.TheVariants.{ServerNotFound}
@@ -8,24 +8,21 @@ use Rattle.xk_base.specs.declared.ids.ThreadId.{ThreadId}
 use Rattle.xk_base.specs.declared.records.Rec.{Rec}
 use Rattle.xk_base.specs.declared.records.What.{What}
 use Rattle.xk_base.specs.declared.records.What.TheVariants.{Call, Reply, Retry, Byte, Fault, End, Irq, Gone}
-use Rattle.syscall_codec.specs.CallNumbers.{return_memory, return_scalar1}
-use Rattle.syscall_codec.specs.CallWords.{call_number, return_offset, return_token, return_valid, return_value1, return_value2}
-use Rattle.syscall_codec.specs.ReplyWords.{refused_words, returned_words, scalar1_words, scalar2_words}
+use Rattle.syscall_codec.specs.CallWords.{call_number, return_token}
+use Rattle.syscall_codec.specs.ReplyWords.{refused_words}
 use Rattle.confidentiality_laws.specs.TwoRuns.{records_by}
 use Rattle.machine_model.specs.Runs.Matched.{Matched, waits_for}
 use Rattle.machine_model.specs.Runs.Moments.{Cause, caused}
 use Rattle.machine_model.specs.State.Machine.{Machine, Server}
 use Rattle.machine_model.specs.State.Order.{actor}
 use Rattle.machine_model.specs.Stepping.Acts.{call_by}
+use Rattle.transcript_laws.specs.CallKinds.{words_back}
 use Rattle.transcript_laws.specs.Following.{Lacks, is_return_call, keeping}
 use Rattle.transcript_laws.specs.Serving.{DiesIn, IsDestroyed, told_by}
 
 -- the words that a return gives the sender
 abbrev pub words_of_return : List ℕ → List ℕ
-words_of_return w =
-    if call_number w == return_memory then returned_words (return_offset w) (return_valid w) else (
-    if call_number w == return_scalar1 then scalar1_words (return_value1 w) else
-    scalar2_words (return_value1 w) (return_value2 w))
+words_of_return w = words_back (call_number w) w
 
 -- the caller of this step returns the message, with these words for its sender
 pub record IsReturnedWith (number : Number) (words : List ℕ) (m : Machine) : Type 0 where

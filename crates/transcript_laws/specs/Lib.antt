@@ -3,6 +3,7 @@ pub mod Answered
 pub mod AnsweredOnce
 pub mod Answering
 pub mod AtServers
+pub mod CallKinds
 pub mod Coming
 pub mod Contents
 pub mod DeliveredOnce

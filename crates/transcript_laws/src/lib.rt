@@ -6,6 +6,7 @@
 mod accepted;
 mod answered;
 mod deliveries;
+mod kinds;
 mod pages;
 mod record_order;
 mod replies;
@@ -16,6 +17,7 @@ mod turns;
 pub use accepted::messages_are_accepted_once;
 pub use answered::{calls_are_answered_once, standings_follow};
 pub use deliveries::{messages_are_delivered_once, messages_follow, nothing_is_lost};
+pub use kinds::served_calls_are_of_kinds;
 pub use pages::pages_come_by_messages;
 pub use record_order::{records_stand_in_order, steps_never_fall};
 pub use replies::{calls_answer_who_waits, replies_are_due};

@@ -31,6 +31,8 @@ use Rattle.machine_model.specs.Stepping.Acts.{is_call_served}
 use Rattle.machine_model.proofs.Runs.SpanLemmas.{out_or_in}
 use Rattle.machine_laws.proofs.Calling.RunRefusalLemmas.{none_holds}
 use Rattle.machine_laws.proofs.Threading.ThreadStepLemmas.{turned_to}
+use Rattle.call_effects.specs.Held.{IsHeld}
+use Rattle.call_effects.proofs.HeldLemmas.{is_held}
 use Rattle.loan_laws.specs.Fates.{Fate, IsKept}
 use Rattle.loan_laws.specs.Leaving.{Leaves}
 use Rattle.call_effects.specs.Rows.MessageRows.{forward_row, passed_if}
@@ -39,7 +41,7 @@ use Rattle.loan_laws.proofs.Fates.FateLemmas.{fate_in, fate_left, fate_out}
 use Rattle.loan_laws.proofs.Fates.ServedFateLemmas.{HasServedFate, IsCaller, served_call}
 use Rattle.loan_laws.proofs.Leaving.LedgerStepLemmas.{pass_leaves}
 use Rattle.loan_laws.proofs.Lending.ArrivalLemmas.{IsArrival, arrival_of}
-use Rattle.loan_laws.proofs.Lending.HeldMessageLemmas.{IsHeldBy, held_by, held_passes, held_run}
+use Rattle.loan_laws.proofs.Lending.HeldMessageLemmas.{held_run}
 use Rattle.loan_laws.proofs.Lending.LendMessageLemmas.{From, IsRunOf, IsSentBy, Senderless}
 
 -- ---- the pages of the loan stay
@@ -69,15 +71,11 @@ module _ (number : Number) (m : Machine) (who : ThreadId) (w : List ℕ) (h : Ma
     abbrev to : Place
     to = passed_place n (forward_cid w) first
 
-    held : IsHeldBy m who.pid (is_passable_of (passed_number w)) message
-    held =
-        let at = held_by n (is_passable_of (passed_number w)) message there in
-        record { serial = at.serial; server = at.server; live = at.live; own = at.own; found = at.found }
+    held : IsHeld n (is_passable_of (passed_number w)) message
+    held = is_held n (is_passable_of (passed_number w)) message there
 
     passes : (is_lend_of (passed_number w) message ≡ true) × (is_some message.sender ≡ true)
-    passes =
-        and_parts (is_lend_of (passed_number w) message) (is_some message.sender)
-        (held_passes m who.pid (is_passable_of (passed_number w)) message held)
+    passes = and_parts (is_lend_of (passed_number w) message) (is_some message.sender) held.passes
 
     named : message.number ≡ passed_number w
     named =
@@ -88,7 +86,7 @@ module _ (number : Number) (m : Machine) (who : ThreadId) (w : List ℕ) (h : Ma
       module _ (a : LoanRun) (out : IsOut number m a) where
         run : IsRunOf held.server message a
         run =
-            held_run m number who.pid (is_passable_of (passed_number w)) message h held
+            held_run m number who (is_passable_of (passed_number w)) message h held
             (subst (λ k. is_lend_of k message ≡ true) (sym named ∙ same) passes.0) a out
 
         lender_there : (o : Option Place) → IsSentBy o message.sender → (home : Place) × (o ≡ Some home)

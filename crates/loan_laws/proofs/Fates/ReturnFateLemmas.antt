@@ -21,9 +21,11 @@ use Rattle.machine_laws.proofs.Calling.ThreadCallLemmas.{two_passed}
 use Rattle.machine_laws.proofs.Threading.ThreadStepLemmas.{turned_to}
 use Rattle.call_effects.specs.Rows.MessageRows.{return_memory_row}
 use Rattle.call_effects.proofs.ServedLemmas.{OfPlan, done}
+use Rattle.call_effects.specs.Held.{IsHeld}
+use Rattle.call_effects.proofs.HeldLemmas.{is_held}
 use Rattle.loan_laws.proofs.Fates.EndedFateLemmas.{ended_fate}
 use Rattle.loan_laws.proofs.Fates.ServedFateLemmas.{HasServedFate, IsCaller, served_call, some_of}
-use Rattle.loan_laws.proofs.Lending.HeldMessageLemmas.{IsHeldBy, held_by, held_passes, held_run}
+use Rattle.loan_laws.proofs.Lending.HeldMessageLemmas.{held_run}
 use Rattle.loan_laws.proofs.Lending.LendMessageLemmas.{IsRunOf}
 
 module _ (number : Number) (m : Machine) (who : ThreadId) (w : List ℕ) (h : Matched m) (calls : IsCaller m who w) where
@@ -35,13 +37,11 @@ module _ (number : Number) (m : Machine) (who : ThreadId) (w : List ℕ) (h : Ma
       → who.pid ≡ a.holder.pid
   by_holder x e named a out = sym here.own ∙ sym (ap (λ (r : LoanRun). r.holder.pid) run.run)
     where
-      here : IsHeldBy m who.pid test x
-      here =
-          let at = held_by (turned_to who m) test x e in
-          record { serial = at.serial; server = at.server; live = at.live; own = at.own; found = at.found }
+      here : IsHeld (turned_to who m) test x
+      here = is_held (turned_to who m) test x e
 
       run : IsRunOf here.server x a
-      run = held_run m number who.pid test x h here (ap (λ k. is_lend_of k x) named ∙ held_passes m who.pid test x here) a out
+      run = held_run m number who test x h here (ap (λ k. is_lend_of k x) named ∙ here.passes) a out
 
   returned_fate : call_number w ≡ return_memory → is_none (held_by_caller (turned_to who m) test) ≡ false
       → HasServedFate number m who w (return_memory_served (turned_to who m) (named_number w) (return_offset w) (return_valid w))

@@ -67,6 +67,7 @@ use Rattle.call_effects.specs.Rows.ServerRows.{connect_row, create_server_row, d
 use Rattle.call_effects.specs.Rows.ThreadRows.{create_row, join_row, process_id_row, terminate_row, thread_id_row, yield_row}
 use Rattle.call_effects.specs.Verdicts.{answers_caller, answers_nobody, Does, RefusedIf, Refuses, RetriedIf, Row, Verdict, meant}
 use Rattle.call_effects.proofs.MeantLemmas.{calls_meant}
+use Rattle.call_effects.proofs.HeldLemmas.{is_held}
 use Rattle.noninterference_laws.specs.Handing.{called_over, destroyed_over, forwarded_over, returned_over, handing_at, handings, no_pages}
 use Rattle.noninterference_laws.specs.Handing.{run_pages, sent_over}
 use Rattle.noninterference_laws.specs.Inside.{Group}
@@ -322,59 +323,17 @@ module _ (group : Group) where
 
   -- ---- messages that are held
 
-  -- the message that a server of the caller's process holds
-  pub record IsHeld (m : Machine) (test : Message → Bool) (message : Message) : Type 0 where
-    pub serial : ℕ
-    pub server : Server
-    pub live : m.servers serial ≡ Some server
-    pub own : server.pid.0 ≡ m.cursor.pid.0
-    pub index : ℕ
-    pub default : Message
-    pub low : index < length server.held
-    pub at : get_or server.held index default ≡ message
-    pub passes : test message ≡ true
-
-  pub held_is : (m : Machine) (test : Message → Bool) (x : Message) → held_by_caller m test ≡ Some x → IsHeld m test x
-  unfolding holder_of
-  held_is m test x e = go (least_below m.next_serial mine) refl e
-    where
-      mine : ℕ → Bool
-      mine n = is_server_of m.cursor.pid (m.servers n) && holds test (m.servers n)
-
-      of_server : (n : ℕ) → is_server_of m.cursor.pid (m.servers n) ≡ true → (o : Option Server) → m.servers n ≡ o
-          → option_and_then (λ server. find test server.held) o ≡ Some x → IsHeld m test x
-      of_server n own None q r = absurd (none-some x r)
-      of_server n own (Some server) q r =
-          let place = found_at test server.held x r in
-          record {
-            serial = n;
-            server = server;
-            live = q;
-            own = eqb-true server.pid.0 m.cursor.pid.0 (sym (ap (is_server_of m.cursor.pid) q) ∙ own);
-            index = place.0;
-            default = place.1;
-            low = place.2;
-            at = place.3;
-            passes = place.4;
-          }
-
-      go : (o : Option ℕ) → least_below m.next_serial mine ≡ o → option_and_then (held_at m test) (option_map serial_of o) ≡ Some x
-          → IsHeld m test x
-      go None q r = absurd (none-some x r)
-      go (Some n) q r =
-          of_server n (and_parts (is_server_of m.cursor.pid (m.servers n)) (holds test (m.servers n)) (least_below-passes m.next_serial mine n q)).0
-          (m.servers n) refl r
-
   -- its loan is held by the caller's process
   pub caller_holds : (m : Machine) → HasLoans m → (number : Number) (test : Message → Bool) → ((x : Message) → test x ≡ true → is_lend_of number x ≡ true)
       → (x : Message) → held_by_caller m test ≡ Some x → AreHeld group m.cursor.pid (λ k. same_number k number) m.ledger
   caller_holds m h number test lends x e p loan there is =
-      let held : IsHeld m test x = held_is m test x e in
-      let its = of_message m number p loan there (same_number-true loan.number number is) held.server (get_or held.server.held held.index held.default)
-      (all_right (IsMessageLent (loans m.ledger) held.server) held.server.queued held.server.held (h.loans.lends held.serial held.server held.live)
-      held.index held.default held.low)
-      (ap (is_lend_of number) held.at ∙ lends x held.passes) in
-      ap (λ (k : Pid). k.0) its.holder ∙ held.own
+      let held = is_held m test x e in
+      let place = found_at test held.server.held x held.found in
+      let its = of_message m number p loan there (same_number-true loan.number number is) held.server (get_or held.server.held place.0 place.1)
+      (all_right (IsMessageLent (loans m.ledger) held.server) held.server.queued held.server.held (h.loans.lends held.serial.0 held.server held.there)
+      place.0 place.1 place.2)
+      (ap (is_lend_of number) place.3 ∙ lends x held.passes) in
+      ap (λ (k : Pid). k.0) (its.holder ∙ held.own)
 
   pub is_there : (o : Option Message) → is_none o ≡ false → (x : Message) × (o ≡ Some x)
   is_there None e = absurd (false≢true (sym e))
@@ -401,7 +360,7 @@ module _ (group : Group) where
       number = passed_number w
 
       lends : is_lend_of (passed_number w) message ≡ true
-      lends = (and_parts (is_lend_of (passed_number w) message) (is_some message.sender) (held_is m (is_passable_of (passed_number w)) message e).passes).0
+      lends = (and_parts (is_lend_of (passed_number w) message) (is_some message.sender) (is_held m (is_passable_of (passed_number w)) message e).passes).0
 
   forward_hands : RowHands forward_message forward_row
   forward_hands m w h =

@@ -1,8 +1,8 @@
 -- Whom a served call answers, and what it leaves of the threads: the caller is answered or waits, each other thread that is answered
 -- waited, and no other thread begins or ceases to wait.
-use Rattle.std.proofs.Common.{◌≡◌, ℕ, ◌+◌, ◌⊎◌, inl, inr, Bool, true, false, List, find, Option, Some, None, refl, sym, ap, ◌∙◌}
+use Rattle.std.proofs.Common.{◌≡◌, ℕ, ◌+◌, ◌⊎◌, inl, inr, Bool, true, false, List, Option, Some, None, refl, sym, ap, ◌∙◌}
 use Rattle.std.specs.Prelude.{◌&&◌, is_none, is_some, nat_eq, nat_le, unwrap_or, if◌then◌else◌}
-use Rattle.std.specs.Option.{option_and_then, option_map, option_map_or, option_or}
+use Rattle.std.specs.Option.{option_map, option_map_or, option_or}
 use Rattle.std.proofs.lemmas.Bool.{and_parts, eqb-true, false≢true}
 use Rattle.std.proofs.lemmas.Option.{none-some}
 use Rattle.xk_base.proofs.CountingLemmas.{least_below-passes}
@@ -18,16 +18,17 @@ use Rattle.machine_model.specs.Calling.ThreadCalls.{create_served, free_tid}
 use Rattle.machine_model.specs.Ending.Closing.{refused_server}
 use Rattle.machine_model.specs.Messaging.Messages.{is_sent_by}
 use Rattle.machine_model.specs.Messaging.ReceiveCalls.{received}
-use Rattle.machine_model.specs.Messaging.ReturnCalls.{held_at, held_by_caller, holder_of, sender_gets, sender_of_message}
+use Rattle.machine_model.specs.Messaging.ReturnCalls.{held_by_caller, sender_gets, sender_of_message}
 use Rattle.machine_model.specs.Messaging.SendCalls.{arrived, sender_answered, sender_left}
 use Rattle.machine_model.specs.Runs.Matched.{Matched}
 use Rattle.machine_model.specs.State.Changes.{Change, answering, only}
-use Rattle.machine_model.specs.State.Machine.{Machine, Process, Server, Thread, ThreadState, Waiting}
+use Rattle.machine_model.specs.State.Machine.{Machine, Process, Thread, ThreadState, Waiting}
 use Rattle.machine_model.specs.State.Threads.{Answers, answer_to, both_answers, change_thread, new_thread, put_thread, thread_id, with_state}
 use Rattle.machine_model.proofs.Matching.CountLemmas.{all_right}
 use Rattle.machine_laws.proofs.Returning.GivenBackLemmas.{found_at}
 use Rattle.machine_laws.proofs.Threading.ThreadAnswerLemmas.{same_thread-self}
 use Rattle.machine_laws.proofs.Threading.ThreadPutLemmas.{alike}
+use Rattle.call_effects.proofs.HeldLemmas.{is_held}
 use Rattle.transcript_laws.specs.Answering.{AnswersWhoWaits, awaits_reply, is_waiting}
 use Rattle.transcript_laws.proofs.Answering.FitLemmas.{no_sender, same_waits, waits_unless}
 
@@ -178,16 +179,6 @@ module _ (m : Machine) (t : Thread) (there : m.threads m.cursor ≡ Some t) wher
 
 -- ---- a return
 
-held_is : (m : Machine) (test : Message → Bool) (x : Message) (o : Option Serial) → option_and_then (held_at m test) o ≡ Some x
-    → (serial : Serial) × (server : Server) × (m.servers serial.0 ≡ Some server) × (find test server.held ≡ Some x)
-held_is m test x None e = absurd (none-some x e)
-held_is m test x (Some serial) e = go (m.servers serial.0) refl e
-  where
-    go : (o : Option Server) → m.servers serial.0 ≡ o → option_and_then (λ server. find test server.held) o ≡ Some x
-        → (s : Serial) × (server : Server) × (m.servers s.0 ≡ Some server) × (find test server.held ≡ Some x)
-    go None q r = absurd (none-some x r)
-    go (Some server) q r = (serial, server, q, r)
-
 -- the sender of a held message waits
 pub held_sender_waits : (m : Machine) → Matched m → (test : Message → Bool) (who : ThreadId) → sender_of_message (held_by_caller m test) ≡ Some who
     → is_waiting (m.threads who) ≡ true
@@ -195,10 +186,10 @@ held_sender_waits m h test who e = go (held_by_caller m test) refl e
   where
     of_message : (x : Message) → held_by_caller m test ≡ Some x → x.sender ≡ Some who → is_waiting (m.threads who) ≡ true
     of_message x q sender =
-        let held = held_is m test x (holder_of m test) q in
-        let at = found_at test held.1.held x held.3 in
+        let held = is_held m test x q in
+        let at = found_at test held.server.held x held.found in
         waits_unless (m.threads who) (λ free.
-        false≢true (sym (all_right (λ y. is_sent_by who y ≡ false) held.1.queued held.1.held (no_sender m h who free held.0.0 held.1 held.2) at.0 at.1 at.2)
+        false≢true (sym (all_right (λ y. is_sent_by who y ≡ false) held.server.queued held.server.held (no_sender m h who free held.serial.0 held.server held.there) at.0 at.1 at.2)
         ∙ (ap (is_sent_by who) at.3 ∙ (ap (λ o. option_map_or (same_thread who) o false) sender ∙ same_thread-self who))))
 
     go : (o : Option Message) → held_by_caller m test ≡ o → sender_of_message o ≡ Some who → is_waiting (m.threads who) ≡ true

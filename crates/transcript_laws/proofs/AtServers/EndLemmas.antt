@@ -1,6 +1,6 @@
 -- Over a run: what isn't at a server in the end was over at the start, or was ended at the server that had it.
 use Rattle.std.proofs.Common.{◌≡◌, ℕ, suc, ◌+◌, ◌<◌, ◌≤◌, ◌⊎◌, inl, inr, Bool, true, false, List, [], ◌∷◌, length, Option, Some, None, refl, sym, ap, ◌∙◌, subst, arith}
-use Rattle.std.specs.Prelude.{if◌then◌else◌, slice_get, unwrap_or}
+use Rattle.std.specs.Prelude.{if◌then◌else◌, slice_get}
 use Rattle.std.specs.Option.{option_map}
 use Rattle.std.proofs.lemmas.Bool.{eq-eqb}
 use Rattle.std.proofs.lemmas.Option.{slice_get_within}
@@ -9,14 +9,12 @@ use Rattle.xk_base.specs.declared.ids.Number.{Number}
 use Rattle.xk_base.specs.declared.ids.Serial.{Serial}
 use Rattle.xk_base.specs.declared.ids.ThreadId.{ThreadId}
 use Rattle.xk_base.specs.declared.messages.Message.{Message}
-use Rattle.xk_base.specs.declared.messages.MsgKind.TheVariants.{Scalar}
 use Rattle.xk_base.specs.Calls.Kinds.{is_answered}
 use Rattle.call_effects.specs.Effects.{arriving, at_server}
 use Rattle.machine_laws.specs.HistoryMoments.{moments_of}
 use Rattle.machine_laws.proofs.Histories.MomentLemmas.{history_is_run}
 use Rattle.machine_model.specs.Messaging.Messages.{is_of_number, new_message, new_number}
 use Rattle.machine_model.specs.Messaging.Receivers.{receiver}
-use Rattle.machine_model.specs.Messaging.SendCalls.{named_kind, sent_serial}
 use Rattle.machine_model.specs.Runs.Matched.{IsServerAwaited, Matched}
 use Rattle.machine_model.specs.Runs.Moments.{IsRun, Moment, caused, state_at}
 use Rattle.machine_model.specs.State.Machine.{Machine, Server}
@@ -36,6 +34,7 @@ use Rattle.transcript_laws.proofs.Following.SendLemmas.{arrival_kept}
 use Rattle.transcript_laws.proofs.Following.StandLemmas.{holds_not_lacks, one_standing, queues_not_lacks, some_standing}
 use Rattle.transcript_laws.proofs.Serving.ArrivalLemmas.{nothing_queued}
 use Rattle.transcript_laws.proofs.Serving.ReceiverLemmas.{first_waiting}
+use Rattle.transcript_laws.specs.CallKinds.{IsSending}
 
 module _ (number : Number) where
   queued_is_at : (n : ℕ) (m : Machine) → keeping number (m.servers n) ≡ Queues → IsAt number n m
@@ -99,14 +98,17 @@ module _ (number : Number) where
       abbrev n : Machine
       n = turned_to a.served.who m
 
-      abbrev serial : Serial
-      serial = sent_serial n a.words
-
       l : Lands n a.words moment.machine
-      l = accepted_lands (new_number m) m moment leads a
+      l = accepted_lands (new_number m) m h moment leads a
+
+      abbrev it : IsSending n a.words
+      it = l.it
+
+      abbrev serial : Serial
+      serial = it.to.serial
 
       abbrev x : Message
-      x = new_message n (unwrap_or (named_kind a.words) Scalar) a.words l.first
+      x = new_message n it.kind a.words it.first
 
       is : is_of_number number x ≡ true
       is = eq-eqb m.next_number number.0 is_new
@@ -124,28 +126,28 @@ module _ (number : Number) where
           served = a.served.served;
         };
         sends = a.sends;
-        leads = l.leads;
-        kind = unwrap_or (named_kind a.words) Scalar;
-        named = l.named;
-        first = l.first;
+        leads = it.to.leads;
+        kind = it.kind;
+        named = it.named;
+        first = it.first;
         is = refl;
       })
 
-      gone : keeping number (Some (at_server (arriving (receiver n serial) x) l.server)) ≡ Lacks
+      gone : keeping number (Some (at_server (arriving (receiver n serial) x) it.to.server)) ≡ Lacks
       gone = sym (ap (keeping number) there) ∙ over.1 serial.0
         where
-          there : moment.machine.servers serial.0 ≡ Some (at_server (arriving (receiver n serial) x) l.server)
+          there : moment.machine.servers serial.0 ≡ Some (at_server (arriving (receiver n serial) x) it.to.server)
           there =
               ap (λ (s : ℕ → Option Server). s serial.0) l.now
               ∙ (ap (λ b. if b then option_map (at_server (arriving (receiver n serial) x)) (n.servers serial.0) else n.servers serial.0) (eq-eqb serial.0 serial.0 refl)
-              ∙ ap (option_map (at_server (arriving (receiver n serial) x))) l.there)
+              ∙ ap (option_map (at_server (arriving (receiver n serial) x))) it.to.there)
 
       sent_ended : IsEnded m moment
       sent_ended = go (receiver n serial) refl gone
         where
           by_answer : (who : ThreadId) → receiver n serial ≡ Some who → (b : Bool) → is_answered x.kind ≡ b
-              → keeping number (Some (at_server (arriving (Some who) x) l.server)) ≡ Lacks → IsEnded m moment
-          by_answer who e true q none = absurd (arrival_kept number x is q (Some who) l.server none)
+              → keeping number (Some (at_server (arriving (Some who) x) it.to.server)) ≡ Lacks → IsEnded m moment
+          by_answer who e true q none = absurd (arrival_kept number x is q (Some who) it.to.server none)
           by_answer who e false q none =
               let at : IsServerAwaited n.servers who.pid serial = nothing_queued n (matched_at a.served.who m h) serial who e in
               record {
@@ -160,8 +162,8 @@ module _ (number : Number) where
                 }) refl (number_of number x is) q;
               }
 
-          go : (o : Option ThreadId) → receiver n serial ≡ o → keeping number (Some (at_server (arriving o x) l.server)) ≡ Lacks → IsEnded m moment
-          go None e none = absurd (queues_not_lacks (sym (queued_this number x l.server is) ∙ none))
+          go : (o : Option ThreadId) → receiver n serial ≡ o → keeping number (Some (at_server (arriving o x) it.to.server)) ≡ Lacks → IsEnded m moment
+          go None e none = absurd (queues_not_lacks (sym (queued_this number x it.to.server is) ∙ none))
           go (Some who) e none = by_answer who e (is_answered x.kind) refl none
 
     -- its number is given in this moment

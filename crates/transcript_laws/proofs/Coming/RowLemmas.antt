@@ -69,15 +69,18 @@ use Rattle.confidentiality_laws.proofs.Keeping.CallLemmas.{none_hold}
 use Rattle.confidentiality_laws.proofs.Keeping.DeathLemmas.{death_orphans}
 use Rattle.confidentiality_laws.proofs.Keeping.MemoryCallLemmas.{HasNoHome}
 use Rattle.confidentiality_laws.proofs.Keeping.SendCallLemmas.{run_free}
+use Rattle.call_effects.specs.Held.{IsHeld}
+use Rattle.call_effects.proofs.HeldLemmas.{is_held}
 use Rattle.transcript_laws.specs.Coming.{IsLent, IsMade, IsMoved, PagesCome, is_told_place, makes_pages}
 use Rattle.transcript_laws.specs.Serving.{IsForwarded, IsForwardedTo, IsSent, IsSentTo, IsServedBy}
 use Rattle.transcript_laws.proofs.Coming.LedgerLemmas.{end_loan_none, end_loans_none, none_comes, only_orphans, reduce_none, remove_none}
 use Rattle.transcript_laws.proofs.Coming.LedgerLemmas.{same_ledger}
-use Rattle.transcript_laws.proofs.Following.ReturnLemmas.{IsHolder, holder, holder_own}
-use Rattle.transcript_laws.proofs.Following.SendLemmas.{HasServerAt, server_there}
+use Rattle.transcript_laws.specs.CallKinds.{LeadsTo}
+use Rattle.transcript_laws.proofs.CallKindLemmas.{leads_to}
 use Rattle.transcript_laws.proofs.Serving.AtServerLemmas.{AreMeant, one_meant}
 use Rattle.transcript_laws.proofs.Serving.ForwardRowLemmas.{lends_of, passed_to_it}
 use Rattle.transcript_laws.proofs.Serving.RowLemmas.{not_cursor}
+use Rattle.machine_model.specs.State.Servers.{is_full}
 
 -- ---- where the pages of a held lend are
 
@@ -86,7 +89,7 @@ unfolding loans
 loans_home l p = refl
 
 -- a page on loan by the number of a held lend is on loan to one of the places that the lend tells
-module _ (m : Machine) (h : Matched m) (test : Message → Bool) (x : Message) (at : IsHolder m test x) (lends : is_lend x.kind ≡ true)
+module _ (m : Machine) (h : Matched m) (test : Message → Bool) (x : Message) (at : IsHeld m test x) (lends : is_lend x.kind ≡ true)
     (sent : is_some x.sender ≡ true) where
   lent : IsMessageLent (loans m.ledger) at.server x
   lent =
@@ -184,7 +187,7 @@ module _ (cause : Cause) (by_step : cause ≡ ByStep) (m : Machine) (h : Matched
 
   -- ---- sends
 
-  module _ (is : is_send (call_number w) ≡ true) (live : HasServerAt m (send_cid w)) (first : Vpn) where
+  module _ (is : is_send (call_number w) ≡ true) (live : LeadsTo m (send_cid w)) (first : Vpn) where
     abbrev from : Place
     from = caller_place m (send_address w)
 
@@ -196,7 +199,7 @@ module _ (cause : Cause) (by_step : cause ≡ ByStep) (m : Machine) (h : Matched
 
     -- the first place is of the server's process
     to_is : to ≡ record { pid = live.server.pid; vpn = first }
-    to_is = ap at (ap (λ o. option_and_then (λ (serial : Serial). m.servers serial.0) o) live.is ∙ live.there)
+    to_is = ap at (ap (λ o. option_and_then (λ (serial : Serial). m.servers serial.0) o) live.leads ∙ live.there)
       where
         at : Option Server → Place
         at o = record { pid = option_map_or (λ (server : Server). server.pid) o m.cursor.pid; vpn = first }
@@ -210,7 +213,7 @@ module _ (cause : Cause) (by_step : cause ≡ ByStep) (m : Machine) (h : Matched
       words = w;
       served = served_by m.cursor.pid refl;
       sends = is;
-      leads = live.is;
+      leads = live.leads;
       kind = kind;
       named = named;
       first = first;
@@ -357,12 +360,12 @@ module _ (cause : Cause) (by_step : cause ≡ ByStep) (m : Machine) (h : Matched
       by None q = refl
       by (Some page) q = not_lent (Some page) q
 
-  sent_to_comes : is_send (call_number w) ≡ true → is_none (server_at m (send_cid w)) ≡ false
+  sent_to_comes : is_send (call_number w) ≡ true → is_none (server_at m (send_cid w)) ≡ false → is_full (server_at m (send_cid w)) ≡ false
       → sends_pages w && any_not_sent m.processes m.ledger (caller_place m (send_address w)) (sent_pages w) (sends_lend_mut w) ≡ false
       → OfPlan OfIt (sent_to_row m w)
-  sent_to_comes is live unsent found =
+  sent_to_comes is live room unsent found =
       subst (PagesCome cause m) (sym (waits_ledger (is_answered (unwrap_or (named_kind w) Scalar)) (new_number m) _))
-      (sent_comes is (server_there m (send_cid w) live) (unwrap_or (arrival m w) (record { 0 = 0 })) (named_kind w) refl
+      (sent_comes is (leads_to m h w (send_cid w) live room) (unwrap_or (arrival m w) (record { 0 = 0 })) (named_kind w) refl
       (λ carries. found_free carries (none_hold (arrival_refusals w (arrival m w)) found).0) (λ carries. run_unlent carries unsent))
 
   -- ---- forwards
@@ -371,16 +374,17 @@ module _ (cause : Cause) (by_step : cause ≡ ByStep) (m : Machine) (h : Matched
   plain servers = one_meant cause m servers m.cursor plain_words (inl refl, not_cursor m ready servers plain_words)
 
   passed_comes : call_number w ≡ forward_message → (first : Vpn) → (o : Option Message) → passable m (passed_number w) ≡ o
-      → is_none (server_at m (forward_cid w)) ≡ false → are_one_server (passed_from m (passed_number w)) (passed_to m (forward_cid w)) ≡ false
+      → is_none (server_at m (forward_cid w)) ≡ false → is_full (server_at m (forward_cid w)) ≡ false
+      → are_one_server (passed_from m (passed_number w)) (passed_to m (forward_cid w)) ≡ false
       → OfPlan OfIt (passed_if m (passed_number w) (forward_cid w) first o)
-  passed_comes e first None there live apart = none_comes cause m m.ledger (same_ledger m.ledger)
-  passed_comes e first (Some x) there live apart = comes
+  passed_comes e first None there live room apart = none_comes cause m m.ledger (same_ledger m.ledger)
+  passed_comes e first (Some x) there live room apart = comes
     where
-      at : IsHolder m (is_passable_of (passed_number w)) x
-      at = holder m (is_passable_of (passed_number w)) x there
+      at : IsHeld m (is_passable_of (passed_number w)) x
+      at = is_held m (is_passable_of (passed_number w)) x there
 
       passes : is_passable_of (passed_number w) x ≡ true
-      passes = (found_at (is_passable_of (passed_number w)) at.server.held x at.found).4
+      passes = at.passes
 
       sent : is_some x.sender ≡ true
       sent = (and_parts (is_lend_of (passed_number w) x) (is_some x.sender) passes).1
@@ -388,15 +392,15 @@ module _ (cause : Cause) (by_step : cause ≡ ByStep) (m : Machine) (h : Matched
       lends : is_lend x.kind ≡ true
       lends = lends_of cause m h w served_by plain x passes
 
-      onward : HasServerAt m (forward_cid w)
-      onward = server_there m (forward_cid w) live
+      onward : LeadsTo m (forward_cid w)
+      onward = leads_to m h w (forward_cid w) live room
 
       distinct : onward.serial.0 ≢ at.serial.0
       distinct same =
-          false≢true (sym apart ∙ ((λ i. are_one_server (at.is i) (onward.is i)) ∙ eq-eqb at.serial.0 onward.serial.0 (sym same)))
+          false≢true (sym apart ∙ ((λ i. are_one_server (at.is i) (onward.leads i)) ∙ eq-eqb at.serial.0 onward.serial.0 (sym same)))
 
       forwards : IsForwardedTo onward.serial.0 (with_first first x) cause m
-      forwards = passed_to_it cause m h w served_by plain e x at onward.serial distinct onward.is first
+      forwards = passed_to_it cause m h w served_by plain e x at onward.serial distinct onward.leads first
 
       from : Place
       from = held_place m x
@@ -405,13 +409,13 @@ module _ (cause : Cause) (by_step : cause ≡ ByStep) (m : Machine) (h : Matched
       to = passed_place m (forward_cid w) first
 
       to_is : to ≡ record { pid = onward.server.pid; vpn = first }
-      to_is = ap place (ap (λ o. option_and_then (λ (serial : Serial). m.servers serial.0) o) onward.is ∙ onward.there)
+      to_is = ap place (ap (λ o. option_and_then (λ (serial : Serial). m.servers serial.0) o) onward.leads ∙ onward.there)
         where
           place : Option Server → Place
           place o = record { pid = option_map_or (λ (server : Server). server.pid) o m.cursor.pid; vpn = first }
 
       from_is : record { pid = at.server.pid; vpn = x.first } ≡ from
-      from_is = ap (λ (pid : Pid). place pid) (holder_own m (is_passable_of (passed_number w)) x at)
+      from_is = ap (λ (pid : Pid). place pid) at.own
         where
           place : Pid → Place
           place pid = record { pid = pid; vpn = x.first }
@@ -465,7 +469,7 @@ module _ (cause : Cause) (by_step : cause ≡ ByStep) (m : Machine) (h : Matched
   forward_comes : call_number w ≡ forward_message → OfPlan OfIt (forward_row m w)
   forward_comes e = λ none found.
       let parts = none_hold (forward_refusals m (passed_number w) (forward_cid w)) none in
-      passed_comes e (unwrap_or (next_arrival m (passed_number w) (forward_cid w)) (record { 0 = 0 })) (passable m (passed_number w)) refl parts.1.0 parts.1.1.0
+      passed_comes e (unwrap_or (next_arrival m (passed_number w) (forward_cid w)) (record { 0 = 0 })) (passable m (passed_number w)) refl parts.1.0 parts.1.1.1.0 parts.1.1.0
 
   -- ---- ends
 
@@ -497,14 +501,14 @@ module _ (cause : Cause) (by_step : cause ≡ ByStep) (m : Machine) (h : Matched
       none_comes cause m _ (reduce_none (in_run (caller_place m (range_address w)) (range_size w / PAGE_SIZE)) (right_of (range_flags w)) m.ledger))
       also (λ e none passed.
       let parts = none_hold (send_refusals m w) none in
-      sent_to_comes (ap is_send e) parts.0 parts.1.1.1.1.0)
+      sent_to_comes (ap is_send e) parts.0 passed parts.1.1.1.1.0)
       also (λ e none.
       none_comes cause m _ (remove_none (in_run (caller_place m (range_address w)) (range_size w / PAGE_SIZE)) m.ledger))
       also (λ e none. none_comes cause m _ (end_loan_none (named_number w) m.ledger))
       also (λ e. terminate_comes)
       also (λ e none.
       let parts = none_hold (send_refusals m w ++ (is_full_for m w, ServerQueueFull) ∷ []) none in
-      sent_to_comes (ap is_send e) parts.0 parts.1.1.1.1.0)
+      sent_to_comes (ap is_send e) parts.0 parts.1.1.1.1.1.0 parts.1.1.1.1.0)
       also (λ e. destroy_comes)
       also (λ e. forward_comes e)
       also tt

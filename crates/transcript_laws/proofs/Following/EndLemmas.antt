@@ -11,7 +11,6 @@ use Rattle.xk_base.specs.declared.messages.Message.{Message}
 use Rattle.syscall_codec.specs.CallNumbers.{destroy_server, terminate_process}
 use Rattle.syscall_codec.specs.CallWords.{call_number}
 use Rattle.syscall_codec.specs.ReplyWords.{plain_words}
-use Rattle.machine_model.specs.Calling.ServerCalls.{named_server, named_sid}
 use Rattle.machine_model.specs.Ending.Closing.{closed, is_sender_at, refused_server, senderless_from, senders_held_gone, senders_queued_gone, servers_closed, with_senderless_from, without_queued_from}
 use Rattle.machine_model.specs.Ending.Ends.{death, forgotten}
 use Rattle.machine_model.specs.Messaging.MessageCounts.{count_in}
@@ -23,15 +22,15 @@ use Rattle.machine_model.specs.State.Servers.{is_server_of, messages_of}
 use Rattle.machine_model.specs.State.Threads.{answer_to, both_answers}
 use Rattle.machine_model.proofs.Matching.CountLemmas.{count_in-append}
 use Rattle.machine_laws.proofs.Messaging.ListedLemmas.{not_counted}
-use Rattle.call_effects.specs.Rows.ServerRows.{destroy_row}
-use Rattle.call_effects.specs.Rows.ThreadRows.{terminate_row}
-use Rattle.call_effects.proofs.ServedLemmas.{OfPlan, done}
+use Rattle.call_effects.proofs.ServedLemmas.{done}
 use Rattle.transcript_laws.specs.Following.{Lacks, Standing, Stands, keeping, keeping_by}
 use Rattle.transcript_laws.proofs.Following.ReceiveLemmas.{at_most_one}
 use Rattle.transcript_laws.proofs.Following.SayLemmas.{asks}
 use Rattle.transcript_laws.proofs.Following.ServedLemmas.{Follows, Quiet, answer_itself, both_quiet, leaves_it, one_quiet, refused_quiet}
 use Rattle.transcript_laws.proofs.Following.StandLemmas.{MayLose, lost_stands}
 use Rattle.transcript_laws.proofs.Following.TellLemmas.{Destroys}
+use Rattle.call_effects.specs.Rows.ThreadRows.{death_plan}
+use Rattle.transcript_laws.specs.CallKinds.{destroying}
 
 module _ (number : Number) where
   abbrev test : Message → Bool
@@ -121,7 +120,7 @@ module _ (number : Number) where
     death_stands = lost_stands number m h (death pid m).machine death_keeps death_number
 
   module _ (m : Machine) (h : Matched m) (w : List ℕ) where
-    pub terminate_follows : call_number w ≡ terminate_process → OfPlan (λ plan. Follows number m w (done m plan)) (terminate_row m w)
+    pub terminate_follows : call_number w ≡ terminate_process → Follows number m w (done m (death_plan m.cursor.pid m))
     unfolding death servers_closed closed
     terminate_follows e a stands =
         let at = death_stands m h m.cursor.pid a stands in
@@ -141,9 +140,9 @@ module _ (number : Number) where
         same : (death m.cursor.pid m).machine.processes ≡ m.processes
         same = unfold death in unfold forgotten in unfold senders_held_gone in unfold senders_queued_gone in unfold servers_closed in unfold closed in refl
 
-    pub destroy_follows : call_number w ≡ destroy_server → OfPlan (λ plan. Follows number m w (done m plan)) (destroy_row m w)
+    pub destroy_follows : call_number w ≡ destroy_server → (serial : Serial) → Follows number m w (done m (destroying m serial))
     unfolding closed
-    destroy_follows e none a stands =
+    destroy_follows e serial a stands =
         let at = lost_stands number m h (closed this m).machine each refl a stands in
         record {
           mid = at.0;
@@ -162,11 +161,8 @@ module _ (number : Number) where
           processes = refl;
         }
       where
-        serial : Serial
-        serial = named_server m (named_sid w)
-
         this : ℕ → Bool
-        this n = n == (named_server m (named_sid w)).0
+        this n = n == serial.0
 
         each : (n : ℕ) → (keeping number ((closed this m).machine.servers n) ≡ keeping number (m.servers n)) ⊎ (keeping number ((closed this m).machine.servers n) ≡ Lacks)
         each n = go (this n)

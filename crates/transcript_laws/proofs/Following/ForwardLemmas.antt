@@ -1,46 +1,45 @@
 -- An accepted forward: a held message leaves its server, and arrives at another.
-use Rattle.std.proofs.Common.{◌≡◌, ◌≢◌, ℕ, ◌<◌, ◌⊎◌, inl, inr, Bool, true, false, List, [], ◌∷◌, Option, Some, None, refl, sym, ap, ◌∙◌, subst, arith}
-use Rattle.std.specs.Prelude.{◌==◌, ◌&&◌, if◌then◌else◌, is_none, is_some, nat_eq, unwrap_or}
+use Rattle.std.proofs.Common.{◌≡◌, ◌≢◌, ℕ, ◌<◌, ◌⊎◌, inl, inr, Bool, true, false, List, Option, Some, None, refl, sym, ap, ◌∙◌, subst, arith}
+use Rattle.std.specs.Prelude.{◌==◌, ◌&&◌, if◌then◌else◌, is_some, nat_eq}
 use Rattle.std.specs.Option.{option_map, option_or}
-use Rattle.std.proofs.lemmas.Bool.{and_parts, eq-eqb, eqb-true, false≢true}
+use Rattle.std.proofs.lemmas.Bool.{eq-eqb, eqb-true, false≢true}
 use Rattle.std.proofs.lemmas.Option.{same_Some}
-use Rattle.xk_base.specs.declared.errors.XousError.TheVariants.{DoubleFree, InvalidSyscall, ServerNotFound, ServerQueueFull}
 use Rattle.xk_base.specs.declared.ids.Number.{Number}
 use Rattle.xk_base.specs.declared.ids.Serial.{Serial}
 use Rattle.xk_base.specs.declared.ids.ThreadId.{ThreadId}
 use Rattle.xk_base.specs.declared.ids.Vpn.{Vpn}
 use Rattle.xk_base.specs.declared.messages.Message.{Message}
 use Rattle.syscall_codec.specs.CallNumbers.{forward_message}
-use Rattle.syscall_codec.specs.CallWords.{call_number, forward_cid, forward_token, return_token}
+use Rattle.syscall_codec.specs.CallWords.{call_number, forward_token, return_token}
 use Rattle.syscall_codec.specs.ReplyWords.{message_words, plain_words}
 use Rattle.xk_base.specs.Tables.Circle.{same_thread}
-use Rattle.xk_base.specs.Tables.Sids.{serial_of}
-use Rattle.machine_model.specs.Messaging.ForwardCalls.{are_one_server, is_passable_of, next_arrival, passable, passed_from, passed_number, passed_to, with_first}
-use Rattle.machine_model.specs.Messaging.Messages.{is_lend, is_lend_of, is_of_number, without_held}
+use Rattle.machine_model.specs.Messaging.ForwardCalls.{is_passable_of, passed_number, with_first}
+use Rattle.machine_model.specs.Messaging.Messages.{is_of_number, without_held}
 use Rattle.machine_model.specs.Messaging.Receivers.{receiver}
 use Rattle.machine_model.specs.Runs.Matched.{Matched}
 use Rattle.machine_model.specs.State.Changes.{Change}
 use Rattle.machine_model.specs.State.Machine.{Machine, Ready, Receiving, Server, Thread, ThreadState}
 use Rattle.machine_model.specs.State.Order.{ready_at}
-use Rattle.machine_model.specs.State.Servers.{change_server, is_full, server_at}
+use Rattle.machine_model.specs.State.Servers.{change_server}
 use Rattle.machine_model.specs.State.Threads.{Answers, answer_to, both_answers}
 use Rattle.machine_model.proofs.Matching.OneMessageLemmas.{same_or_not}
-use Rattle.machine_laws.proofs.Calling.RunRefusalLemmas.{none_holds}
-use Rattle.machine_laws.proofs.Returning.GivenBackLemmas.{found_at}
 use Rattle.machine_laws.proofs.Sending.SentReceiverLemmas.{receiver_receives}
 use Rattle.machine_laws.proofs.Threading.ThreadAnswerLemmas.{IsReadyThread, ready_thread}
 use Rattle.machine_laws.proofs.Threading.ThreadPutLemmas.{alike}
 use Rattle.call_effects.specs.Effects.{arriving, at_server}
-use Rattle.call_effects.specs.Rows.MessageRows.{arrival_answers, forward_row, passed_if}
-use Rattle.call_effects.proofs.ServedLemmas.{OfPlan, done}
+use Rattle.call_effects.specs.Rows.MessageRows.{arrival_answers}
+use Rattle.call_effects.proofs.ServedLemmas.{done}
+use Rattle.call_effects.specs.Held.{IsHeld}
 use Rattle.transcript_laws.specs.Following.{Lacks, Queued, Standing, Stands, is_return_call, keeping}
 use Rattle.transcript_laws.proofs.Following.KeepLemmas.{change_elsewhere, change_here, change_same, returned_other, returned_this}
-use Rattle.transcript_laws.proofs.Following.ReturnLemmas.{IsHolder, holder, is_kept, not_queued, stood_held}
-use Rattle.transcript_laws.proofs.Following.SendLemmas.{HasServerAt, arrival_other, arrival_quiet, arrival_says, arrival_this, arrived_as}
-use Rattle.transcript_laws.proofs.Following.SendLemmas.{receiver_known, server_there}
+use Rattle.transcript_laws.proofs.Following.ReturnLemmas.{is_kept, not_queued, stood_held}
+use Rattle.transcript_laws.proofs.Following.SendLemmas.{arrival_other, arrival_quiet, arrival_says, arrival_this, arrived_as}
+use Rattle.transcript_laws.proofs.Following.SendLemmas.{receiver_known}
 use Rattle.transcript_laws.proofs.Following.ServedLemmas.{Follows, Quiet, ServedSays, answer_itself, one_quiet}
 use Rattle.transcript_laws.proofs.Following.StandLemmas.{kept_low, now_stands, others_lack, same_stands, standing_at}
 use Rattle.transcript_laws.proofs.Following.TellLemmas.{CallSays, Forwards, Leaves}
+use Rattle.transcript_laws.proofs.CallKindUseLemmas.{passable_number}
+use Rattle.transcript_laws.specs.CallKinds.{IsPassing, passing, place_at_server}
 
 -- a thread that is Ready doesn't wait for a message
 ready_not_receiving : (serial : Serial) (s : ThreadState) → s ≡ Ready → s ≡ Receiving serial → ⊥
@@ -74,7 +73,7 @@ module _ (m : Machine) (ready : ready_at m m.cursor ≡ true) (serial : Serial) 
 -- ---- the forward
 
 module _ (number : Number) (m : Machine) (h : Matched m) (ready : ready_at m m.cursor ≡ true) (w : List ℕ) (e : call_number w ≡ forward_message)
-    (x : Message) (at : IsHolder m (is_passable_of (passed_number w)) x) (named : is_of_number (passed_number w) x ≡ true) (to : Serial) (server : Server)
+    (x : Message) (at : IsHeld m (is_passable_of (passed_number w)) x) (named : is_of_number (passed_number w) x ≡ true) (to : Serial) (server : Server)
     (there : m.servers to.0 ≡ Some server) (apart : to.0 ≢ at.serial.0) (first : Vpn) where
   abbrev next : Message
   next = with_first first x
@@ -171,57 +170,8 @@ module _ (number : Number) (m : Machine) (h : Matched m) (ready : ready_at m m.c
 
 -- ---- the call
 
-module _ (number : Number) (m : Machine) (h : Matched m) (ready : ready_at m m.cursor ≡ true) (w : List ℕ) (e : call_number w ≡ forward_message) where
-  abbrev cid : ℕ
-  cid = forward_cid w
-
-  by_message : (o : Option Message) → passable m (passed_number w) ≡ o → is_none o ≡ false → is_none (server_at m cid) ≡ false
-      → are_one_server (passed_from m (passed_number w)) (passed_to m cid) ≡ false → (first : Vpn)
-      → OfPlan (λ plan. Follows number m w (done m plan)) (passed_if m (passed_number w) cid first o)
-  by_message None there some live apart first = absurd (false≢true (sym some))
-  by_message (Some x) there some live apart first = λ a stands.
-      forwarded_says number m h ready w e x at named (unwrap_or (passed_to m cid) (serial_of 0)) live_at.server to_there distinct first _ servers refl refl a stands
-    where
-      at : IsHolder m (is_passable_of (passed_number w)) x
-      at = holder m (is_passable_of (passed_number w)) x there
-
-      live_at : HasServerAt m cid
-      live_at = server_there m cid live
-
-      named : is_of_number (passed_number w) x ≡ true
-      named =
-          let passes = and_parts (is_lend_of (passed_number w) x) (is_some x.sender) (found_at (is_passable_of (passed_number w)) at.server.held x at.found).4 in
-          (and_parts (is_of_number (passed_number w) x) (is_lend x.kind) passes.0).0
-
-      to_there : m.servers (unwrap_or (passed_to m cid) (serial_of 0)).0 ≡ Some live_at.server
-      to_there = ap (λ (o : Option Serial). m.servers (unwrap_or o (serial_of 0)).0) live_at.is ∙ live_at.there
-
-      distinct : (unwrap_or (passed_to m cid) (serial_of 0)).0 ≢ at.serial.0
-      distinct same =
-          false≢true (sym apart
-          ∙ ((λ i. are_one_server (at.is i) (live_at.is i))
-          ∙ eq-eqb at.serial.0 live_at.serial.0 (sym same ∙ ap (λ (o : Option Serial). (unwrap_or o (serial_of 0)).0) live_at.is)))
-
-      from_is : unwrap_or (passed_from m (passed_number w)) (serial_of 0) ≡ at.serial
-      from_is = ap (λ (o : Option Serial). unwrap_or o (serial_of 0)) at.is
-
-      servers : (change_server (unwrap_or (passed_to m cid) (serial_of 0)) (at_server (arriving (receiver m (unwrap_or (passed_to m cid) (serial_of 0))) (with_first first x)))
-          (change_server (unwrap_or (passed_from m (passed_number w)) (serial_of 0)) (without_held x.number) m)).servers
-          ≡ (change_server (unwrap_or (passed_to m cid) (serial_of 0)) (at_server (arriving (receiver m (unwrap_or (passed_to m cid) (serial_of 0))) (with_first first x)))
-          (change_server at.serial (without_held x.number) m)).servers
-      servers =
-          ap (λ (s : Serial). (change_server (unwrap_or (passed_to m cid) (serial_of 0)) (at_server (arriving (receiver m (unwrap_or (passed_to m cid) (serial_of 0))) (with_first first x)))
-          (change_server s (without_held x.number) m)).servers) from_is
-
-  pub forward_follows : OfPlan (λ plan. Follows number m w (done m plan)) (forward_row m w)
-  forward_follows = λ none free.
-      let one = none_holds (is_none (passable m (passed_number w))) DoubleFree
-      ((is_none (server_at m cid), ServerNotFound)
-      ∷ (are_one_server (passed_from m (passed_number w)) (passed_to m cid), InvalidSyscall)
-      ∷ (is_full (server_at m cid), ServerQueueFull)
-      ∷ []) none in
-      let two = none_holds (is_none (server_at m cid)) ServerNotFound
-      ((are_one_server (passed_from m (passed_number w)) (passed_to m cid), InvalidSyscall) ∷ (is_full (server_at m cid), ServerQueueFull) ∷ []) one.1 in
-      let three = none_holds (are_one_server (passed_from m (passed_number w)) (passed_to m cid)) InvalidSyscall
-      ((is_full (server_at m cid), ServerQueueFull) ∷ []) two.1 in
-      by_message (passable m (passed_number w)) refl one.0 two.0 three.0 (unwrap_or (next_arrival m (passed_number w) cid) (record { 0 = 0 }))
+pub passes_follows : (number : Number) (m : Machine) → Matched m → ready_at m m.cursor ≡ true → (w : List ℕ) → call_number w ≡ forward_message → (it : IsPassing m w)
+    → Follows number m w (done m (passing m it.message it.held.serial it.to.serial (place_at_server it.to.server it.first)))
+passes_follows number m h ready w e it =
+    forwarded_says number m h ready w e it.message it.held (passable_number (passed_number w) it.message it.held.passes) it.to.serial it.to.server it.to.there
+    it.apart it.first _ refl refl refl

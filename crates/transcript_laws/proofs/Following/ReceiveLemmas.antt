@@ -1,8 +1,7 @@
 -- A receive takes the oldest queued message.
-use Rattle.std.proofs.Common.{◌≡◌, ◌≢◌, ℕ, ◌+◌, ◌≤◌, inl, Bool, true, false, List, [], ◌∷◌, drop, Option, Some, None, refl, sym, ap, ◌∙◌, subst, arith}
+use Rattle.std.proofs.Common.{◌≡◌, ◌≢◌, ℕ, ◌+◌, ◌≤◌, inl, Bool, true, false, List, [], ◌∷◌, drop, Some, refl, sym, ap, ◌∙◌, subst, arith}
 use Rattle.std.specs.Prelude.{◌||◌, if◌then◌else◌}
 use Rattle.std.specs.List.{list_any}
-use Rattle.std.specs.Option.{option_and_then}
 use Rattle.std.proofs.lemmas.Option.{none-some, same_Some}
 use Rattle.xk_base.specs.declared.ids.Number.{Number}
 use Rattle.xk_base.specs.declared.ids.Serial.{Serial}
@@ -15,7 +14,6 @@ use Rattle.syscall_codec.specs.ReplyWords.{message_words, plain_words}
 use Rattle.xk_base.specs.Tables.Circle.{is_thread_id}
 use Rattle.machine_model.specs.Messaging.MessageCounts.{count_in}
 use Rattle.machine_model.specs.Messaging.Messages.{is_of_number, oldest, with_received, without_oldest}
-use Rattle.machine_model.specs.Messaging.ReceiveCalls.{oldest_queued}
 use Rattle.machine_model.specs.Runs.Matched.{Matched}
 use Rattle.machine_model.specs.State.Machine.{Machine, Server}
 use Rattle.machine_model.specs.State.Order.{ready_at}
@@ -25,9 +23,7 @@ use Rattle.machine_model.proofs.Matching.CountLemmas.{count_in-append, one_if}
 use Rattle.machine_laws.proofs.Messaging.AnyServerLemmas.{messages_apart}
 use Rattle.machine_laws.proofs.Messaging.ListedLemmas.{not_counted}
 use Rattle.machine_laws.proofs.Threading.ThreadAnswerLemmas.{IsReadyThread, ready_thread}
-use Rattle.call_effects.specs.Rows.MessageRows.{taken_or}
-use Rattle.call_effects.specs.Verdicts.{Verdict}
-use Rattle.call_effects.proofs.ServedLemmas.{OfPlan, done}
+use Rattle.call_effects.proofs.ServedLemmas.{done}
 use Rattle.transcript_laws.specs.Following.{Held, Lacks, Over, Queued, Queues, Standing, Stands, keeping, keeping_by, left_by}
 use Rattle.transcript_laws.proofs.Following.KeepLemmas.{change_elsewhere, change_here, change_same, received_as, received_other}
 use Rattle.transcript_laws.proofs.Following.KeepLemmas.{received_this}
@@ -36,6 +32,7 @@ use Rattle.transcript_laws.proofs.Following.ServedLemmas.{Follows, One, Quiet, a
 use Rattle.transcript_laws.proofs.Following.TellLemmas.{CallSays}
 use Rattle.transcript_laws.proofs.Following.StandLemmas.{kept_low, now_stands, one_standing, others_lack, queues_not_lacks, same_stands}
 use Rattle.transcript_laws.proofs.Following.StandLemmas.{standing_at}
+use Rattle.transcript_laws.specs.CallKinds.{taking}
 
 -- ---- a delivered message
 
@@ -120,20 +117,18 @@ module _ (number : Number) (m : Machine) (h : Matched m) where
 
   module _ (ready : ready_at m m.cursor ≡ true) (w : List ℕ) (k : ℕ) (e : call_number w ≡ k) (none : asks k ≡ false) where
     -- the caller gets the message
-    by_server : (verdict : Verdict) (serial : Serial) (x : Message) (o : Option Server) → m.servers serial.0 ≡ o → option_and_then (λ server. oldest server.queued) o ≡ Some x
-        → OfPlan (λ plan. Follows number m w (done m plan)) (taken_or m serial (Some x) verdict)
-    by_server verdict serial x None there first = absurd (none-some x first)
-    by_server verdict serial x (Some server) there first = by_queue server.queued refl first
+    pub taken_follows : (serial : Serial) (server : Server) → m.servers serial.0 ≡ Some server → (x : Message) → oldest server.queued ≡ Some x
+        → Follows number m w (done m (taking m serial x))
+    taken_follows serial server there x first = by_queue server.queued refl first
       where
-        by_queue : (queue : List Message) → server.queued ≡ queue → oldest queue ≡ Some x
-            → OfPlan (λ plan. Follows number m w (done m plan)) (taken_or m serial (Some x) verdict)
+        by_queue : (queue : List Message) → server.queued ≡ queue → oldest queue ≡ Some x → Follows number m w (done m (taking m serial x))
         by_queue [] q f = absurd (none-some x f)
         by_queue (y ∷ rest) q f = go (is_of_number number x) refl
           where
             queue : server.queued ≡ x ∷ rest
             queue = q ∙ ap (λ z. z ∷ rest) (same_Some y x f)
 
-            go : (b : Bool) → is_of_number number x ≡ b → OfPlan (λ plan. Follows number m w (done m plan)) (taken_or m serial (Some x) verdict)
+            go : (b : Bool) → is_of_number number x ≡ b → Follows number m w (done m (taking m serial x))
             go false other = λ a stands. record {
               mid = a;
               last = a;
@@ -159,11 +154,3 @@ module _ (number : Number) (m : Machine) (h : Matched m) where
               delivery = refl;
               processes = refl;
             }
-
-    pub taken_follows : (serial : Serial) (verdict : Verdict) → OfPlan (λ plan. Follows number m w (done m plan)) verdict
-        → OfPlan (λ plan. Follows number m w (done m plan)) (taken_or m serial (oldest_queued m serial) verdict)
-    taken_follows serial verdict otherwise = go (oldest_queued m serial) refl
-      where
-        go : (o : Option Message) → oldest_queued m serial ≡ o → OfPlan (λ plan. Follows number m w (done m plan)) (taken_or m serial o verdict)
-        go None q = otherwise
-        go (Some x) q = by_server verdict serial x (m.servers serial.0) refl q

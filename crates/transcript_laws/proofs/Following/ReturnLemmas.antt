@@ -1,85 +1,40 @@
 -- A return takes a held message away.
-use Rattle.std.proofs.Common.{◌≡◌, ◌≢◌, ℕ, zero, suc, ◌+◌, ◌<◌, ◌≤◌, inr, Bool, true, false, List, [], ◌∷◌, Option, Some, None, refl, sym, ap, ◌∙◌, subst, arith}
-use Rattle.std.specs.Prelude.{◌==◌, ◌&&◌, find, is_none, is_some, not, unwrap_or}
+use Rattle.std.proofs.Common.{◌≡◌, ◌≢◌, ℕ, zero, suc, ◌+◌, ◌<◌, ◌≤◌, inr, Bool, true, false, List, Option, Some, None, refl, sym, ap, ◌∙◌, subst, arith}
+use Rattle.std.specs.Prelude.{◌==◌, ◌&&◌, if◌then◌else◌, is_some}
 use Rattle.std.specs.List.{list_any}
-use Rattle.std.specs.Option.{option_and_then, option_map, option_map_or, option_or}
-use Rattle.std.proofs.lemmas.Bool.{and_parts, eq-eqb, eqb-true, false≢true}
-use Rattle.std.proofs.lemmas.Option.{none-some, same_Some}
-use Rattle.xk_base.specs.declared.errors.XousError.TheVariants.{BadAddress, DoubleFree}
+use Rattle.std.specs.Option.{option_or}
+use Rattle.std.proofs.lemmas.Bool.{eq-eqb, eqb-true, false≢true}
 use Rattle.xk_base.specs.declared.ids.Number.{Number}
-use Rattle.xk_base.specs.declared.ids.Serial.{Serial}
 use Rattle.xk_base.specs.declared.ids.ThreadId.{ThreadId}
 use Rattle.xk_base.specs.declared.messages.Message.{Message}
-use Rattle.syscall_codec.specs.CallNumbers.{forward_message, return_memory, return_scalar1, return_scalar2}
-use Rattle.syscall_codec.specs.CallWords.{call_number, forward_token, return_address, return_offset, return_size, return_token}
+use Rattle.syscall_codec.specs.CallNumbers.{forward_message, return_memory, return_scalar1}
+use Rattle.syscall_codec.specs.CallWords.{call_number, forward_token, return_offset, return_token}
 use Rattle.syscall_codec.specs.CallWords.{return_valid, return_value1, return_value2}
 use Rattle.syscall_codec.specs.ReplyWords.{plain_words, returned_words, scalar1_words, scalar2_words}
-use Rattle.xk_base.specs.Tables.Counting.{least_below}
-use Rattle.xk_base.specs.Tables.Sids.{serial_of}
-use Rattle.xk_base.proofs.CountingLemmas.{least_below-passes}
 use Rattle.machine_model.specs.Messaging.MessageCounts.{count_in}
-use Rattle.machine_model.specs.Messaging.Messages.{is_blocking_of, is_blocking_scalar, is_lend, is_lend_of, is_of_number, without_held}
-use Rattle.machine_model.specs.Messaging.ReturnCalls.{held_at, held_by_caller, holder_of, holds, is_its_range, named_number, sender_gets, sender_of_message}
+use Rattle.machine_model.specs.Messaging.Messages.{is_of_number, without_held}
+use Rattle.machine_model.specs.Messaging.ReturnCalls.{named_number, sender_gets}
 use Rattle.machine_model.specs.Runs.Matched.{Matched}
 use Rattle.machine_model.specs.State.Machine.{Machine, Server}
-use Rattle.machine_model.specs.State.Servers.{change_server, is_server_of, messages_of}
+use Rattle.machine_model.specs.State.Servers.{change_server, messages_of}
 use Rattle.machine_model.specs.State.Threads.{Answers, answer_to, both_answers}
 use Rattle.machine_model.proofs.Matching.CountLemmas.{count_in-append}
-use Rattle.machine_laws.proofs.Calling.RunRefusalLemmas.{none_holds}
 use Rattle.machine_laws.proofs.Messaging.ListedLemmas.{at_listed, not_counted}
 use Rattle.machine_laws.proofs.Returning.GivenBackLemmas.{found_at}
-use Rattle.call_effects.specs.Rows.MessageRows.{return_memory_row, return_scalar1_row, return_scalar2_row}
-use Rattle.call_effects.proofs.ServedLemmas.{OfPlan, done}
-use Rattle.loan_laws.proofs.Fates.ServedFateLemmas.{some_of}
+use Rattle.call_effects.proofs.ServedLemmas.{done}
+use Rattle.call_effects.specs.Held.{IsHeld}
 use Rattle.transcript_laws.specs.Following.{Held, Holds, Lacks, Over, Standing, Stands, is_message_of, is_return_call, keeping, keeping_by}
 use Rattle.transcript_laws.proofs.Following.KeepLemmas.{change_elsewhere, change_here, change_same, returned_other, returned_this}
 use Rattle.transcript_laws.proofs.Following.ReceiveLemmas.{at_most_one}
 use Rattle.transcript_laws.proofs.Following.ServedLemmas.{Follows, Quiet, ServedSays, answer_itself, both_quiet, none_quiet, one_quiet}
 use Rattle.transcript_laws.proofs.Following.StandLemmas.{holds_not_lacks, kept_low, now_stands, one_standing, others_lack, same_stands}
 use Rattle.transcript_laws.proofs.Following.TellLemmas.{CallSays, IsQuiet, Leaves, Returns}
+use Rattle.transcript_laws.proofs.CallKindUseLemmas.{loan_leaves, returnable_number}
+use Rattle.transcript_laws.specs.CallKinds.{IsReturning, is_returnable, returning, words_back}
 
 -- ---- a held message
 
--- the server that holds it, as the search finds it
-pub record IsHolder (m : Machine) (test : Message → Bool) (x : Message) : Type 0 where
-  pub serial : Serial
-  pub is : holder_of m test ≡ Some serial
-  pub server : Server
-  pub there : m.servers serial.0 ≡ Some server
-  pub found : find test server.held ≡ Some x
-
-pub holder : (m : Machine) (test : Message → Bool) (x : Message) → held_by_caller m test ≡ Some x → IsHolder m test x
-holder m test x e = go (holder_of m test) refl e
-  where
-    at : (serial : Serial) → holder_of m test ≡ Some serial → (o : Option Server) → m.servers serial.0 ≡ o
-        → option_and_then (λ server. find test server.held) o ≡ Some x → IsHolder m test x
-    at serial is None there f = absurd (none-some x f)
-    at serial is (Some server) there f = record { serial = serial; is = is; server = server; there = there; found = f }
-
-    go : (o : Option Serial) → holder_of m test ≡ o → option_and_then (held_at m test) o ≡ Some x → IsHolder m test x
-    go None is f = absurd (none-some x f)
-    go (Some serial) is f = at serial is (m.servers serial.0) refl f
-
--- it is one of the caller's process
-pub holder_own : (m : Machine) (test : Message → Bool) (x : Message) (at : IsHolder m test x) → at.server.pid ≡ m.cursor.pid
-unfolding holder_of
-holder_own m test x at = go (least_below m.next_serial own_holds) refl at.is
-  where
-    own_holds : ℕ → Bool
-    own_holds n = is_server_of m.cursor.pid (m.servers n) && holds test (m.servers n)
-
-    owner : is_server_of m.cursor.pid (m.servers at.serial.0) ≡ true → at.server.pid ≡ m.cursor.pid
-    owner own =
-        let same : at.server.pid.0 ≡ m.cursor.pid.0 = eqb-true at.server.pid.0 m.cursor.pid.0 (sym (ap (is_server_of m.cursor.pid) at.there) ∙ own) in
-        λ i. record { 0 = same i }
-
-    go : (o : Option ℕ) → least_below m.next_serial own_holds ≡ o → option_map serial_of o ≡ Some at.serial → at.server.pid ≡ m.cursor.pid
-    go None q r = absurd (none-some at.serial r)
-    go (Some n) q r =
-        let passes = and_parts (is_server_of m.cursor.pid (m.servers n)) (holds test (m.servers n)) (least_below-passes m.next_serial own_holds n q) in
-        owner (ap (λ (s : Serial). is_server_of m.cursor.pid (m.servers s.0)) (sym (same_Some (serial_of n) at.serial r)) ∙ passes.0)
-
-module _ (number : Number) (m : Machine) (h : Matched m) (test : Message → Bool) (x : Message) (at : IsHolder m test x) (named : is_of_number number x ≡ true) where
+module _ (number : Number) (m : Machine) (h : Matched m) (test : Message → Bool) (x : Message) (at : IsHeld m test x) (named : is_of_number number x ≡ true) where
   abbrev server : Server
   server = at.server
 
@@ -115,9 +70,28 @@ module _ (number : Number) (m : Machine) (h : Matched m) (test : Message → Boo
 
 -- ---- a return
 
-module _ (number : Number) (m : Machine) (h : Matched m) (w : List ℕ) (test : Message → Bool)
-    (numbered : (x : Message) → test x ≡ true → is_of_number (named_number w) x ≡ true) (words : List ℕ) (silent : is_message_of number words ≡ false)
-    (returns : is_return_call (call_number w) ≡ true) (apart : (call_number w == forward_message) ≡ false) where
+module _ (number : Number) (m : Machine) (h : Matched m) (w : List ℕ) (returns : is_return_call (call_number w) ≡ true)
+    (it : IsReturning m (call_number w) w) where
+  abbrev words : List ℕ
+  words = words_back (call_number w) w
+
+  silent : is_message_of number words ≡ false
+  silent = go (call_number w == return_memory) (call_number w == return_scalar1)
+    where
+      go : (a b : Bool)
+          → is_message_of number (if a then returned_words (return_offset w) (return_valid w) else (
+          if b then scalar1_words (return_value1 w) else scalar2_words (return_value1 w) (return_value2 w))) ≡ false
+      go true b = refl
+      go false true = refl
+      go false false = refl
+
+  apart : (call_number w == forward_message) ≡ false
+  apart = go (call_number w == forward_message) refl
+    where
+      go : (b : Bool) → (call_number w == forward_message) ≡ b → b ≡ false
+      go false e = refl
+      go true e = absurd (false≢true (sym (ap is_return_call (eqb-true (call_number w) forward_message e)) ∙ returns))
+
   abbrev answers : Option ThreadId → Answers
   answers sender = both_answers (answer_to m.cursor plain_words) (sender_gets words sender)
 
@@ -133,20 +107,22 @@ module _ (number : Number) (m : Machine) (h : Matched m) (w : List ℕ) (test : 
   plain : (o : Option ThreadId) → answers o m.cursor ≡ Some plain_words
   plain o = ap (λ x. option_or x (sender_gets words o m.cursor)) (answer_itself m.cursor plain_words)
 
-  module _ (x : Message) (there : held_by_caller m test ≡ Some x) (o : Option ThreadId) (next : Machine)
-      (servers : next.servers ≡ (change_server (unwrap_or (holder_of m test) (serial_of 0)) (without_held (named_number w)) m).servers)
+  module _ (o : Option ThreadId) (next : Machine) (now : next.servers ≡ (change_server it.held.serial (without_held (named_number w)) m).servers)
       (count : next.next_number ≡ m.next_number) (processes : next.processes ≡ m.processes) where
-    at : IsHolder m test x
-    at = holder m test x there
+    abbrev test : Message → Bool
+    test = is_returnable (call_number w) w
+
+    abbrev x : Message
+    x = it.message
+
+    abbrev at : IsHeld m (is_returnable (call_number w) w) it.message
+    at = it.held
 
     abbrev k : Number
     k = named_number w
 
     is_x : is_of_number k x ≡ true
-    is_x = numbered x (found_at test at.server.held x at.found).4
-
-    now : next.servers ≡ (change_server at.serial (without_held k) m).servers
-    now = servers ∙ ap (λ o. (change_server (unwrap_or o (serial_of 0)) (without_held k) m).servers) at.is
+    is_x = returnable_number (call_number w) w x at.passes
 
     kept : (n : ℕ) → keeping number (next.servers n) ≡ keeping number ((change_server at.serial (without_held k) m).servers n)
     kept n = ap (λ (s : ℕ → Option Server). keeping number (s n)) now
@@ -199,33 +175,10 @@ module _ (number : Number) (m : Machine) (h : Matched m) (w : List ℕ) (test : 
         go false e = other e
         go true e = let q : k.0 ≡ number.0 = eqb-true k.0 number.0 e in this (λ i. record { 0 = q i })
 
--- ---- the calls
+-- ---- the call
 
-pub lends_number : (k : Number) (x : Message) → is_lend_of k x ≡ true → is_of_number k x ≡ true
-lends_number k x e = (and_parts (is_of_number k x) (is_lend x.kind) e).0
-
-pub blocks_number : (k : Number) (x : Message) → is_blocking_of k x ≡ true → is_of_number k x ≡ true
-blocks_number k x e = (and_parts (is_of_number k x) (is_blocking_scalar x.kind) e).0
-
-module _ (number : Number) (m : Machine) (h : Matched m) (w : List ℕ) where
-  pub return_memory_follows : call_number w ≡ return_memory → OfPlan (λ plan. Follows number m w (done m plan)) (return_memory_row m w)
-  return_memory_follows e none =
-      let some = some_of (held_by_caller m (is_lend_of (named_number w)))
-      (none_holds (is_none (held_by_caller m (is_lend_of (named_number w)))) DoubleFree
-      ((not (option_map_or (is_its_range (return_address w) (return_size w)) (held_by_caller m (is_lend_of (named_number w))) false), BadAddress) ∷ []) none).0 in
-      returned_says number m h w (is_lend_of (named_number w)) (lends_number (named_number w)) (returned_words (return_offset w) (return_valid w)) refl
-      (ap is_return_call e) (ap (λ j. j == forward_message) e) some.0 some.1 (sender_of_message (held_by_caller m (is_lend_of (named_number w)))) _ refl refl refl
-
-  pub return_scalar1_follows : call_number w ≡ return_scalar1 → OfPlan (λ plan. Follows number m w (done m plan)) (return_scalar1_row m w)
-  return_scalar1_follows e none =
-      let some = some_of (held_by_caller m (is_blocking_of (named_number w)))
-      (none_holds (is_none (held_by_caller m (is_blocking_of (named_number w)))) DoubleFree [] none).0 in
-      returned_says number m h w (is_blocking_of (named_number w)) (blocks_number (named_number w)) (scalar1_words (return_value1 w)) refl
-      (ap is_return_call e) (ap (λ j. j == forward_message) e) some.0 some.1 (sender_of_message (held_by_caller m (is_blocking_of (named_number w)))) _ refl refl refl
-
-  pub return_scalar2_follows : call_number w ≡ return_scalar2 → OfPlan (λ plan. Follows number m w (done m plan)) (return_scalar2_row m w)
-  return_scalar2_follows e none =
-      let some = some_of (held_by_caller m (is_blocking_of (named_number w)))
-      (none_holds (is_none (held_by_caller m (is_blocking_of (named_number w)))) DoubleFree [] none).0 in
-      returned_says number m h w (is_blocking_of (named_number w)) (blocks_number (named_number w)) (scalar2_words (return_value1 w) (return_value2 w)) refl
-      (ap is_return_call e) (ap (λ j. j == forward_message) e) some.0 some.1 (sender_of_message (held_by_caller m (is_blocking_of (named_number w)))) _ refl refl refl
+pub returns_follows : (number : Number) (m : Machine) → Matched m → (w : List ℕ) → is_return_call (call_number w) ≡ true → (it : IsReturning m (call_number w) w)
+    → Follows number m w (done m (returning m (call_number w) w it))
+returns_follows number m h w is it =
+    let leaves = loan_leaves (call_number w) w (change_server it.held.serial (without_held (named_number w)) m) in
+    returned_says number m h w is it it.message.sender _ leaves.servers leaves.next_number leaves.processes

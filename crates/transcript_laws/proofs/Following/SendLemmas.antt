@@ -1,43 +1,35 @@
 -- An accepted send: its message is queued, or goes to the thread that waits for one.
 use Rattle.std.proofs.Common.{◌≡◌, ◌≢◌, ℕ, ◌+◌, ◌<◌, ◌≤◌, ◌⊎◌, inl, inr, Bool, true, false, List, [], ◌∷◌, ◌++◌, Option, Some, None, refl, sym, ap, ◌∙◌, subst, arith}
-use Rattle.std.specs.Prelude.{◌&&◌, if◌then◌else◌, nat_eq, is_none, unwrap_or}
+use Rattle.std.specs.Prelude.{if◌then◌else◌, nat_eq}
 use Rattle.std.specs.List.{list_any}
-use Rattle.std.specs.Option.{option_and_then, option_map, option_or}
+use Rattle.std.specs.Option.{option_map, option_or}
 use Rattle.std.proofs.lemmas.Bool.{cases_lt, eq-eqb, eqb-true, false≢true}
-use Rattle.xk_base.specs.declared.errors.XousError.{XousError}
-use Rattle.xk_base.specs.declared.errors.XousError.TheVariants.{BadAddress, BadAlignment, InvalidSyscall, ServerNotFound, ServerQueueFull, ShareViolation}
 use Rattle.xk_base.specs.declared.ids.Number.{Number}
 use Rattle.xk_base.specs.declared.ids.Serial.{Serial}
 use Rattle.xk_base.specs.declared.ids.ThreadId.{ThreadId}
-use Rattle.xk_base.specs.declared.ids.Vpn.{Vpn}
 use Rattle.xk_base.specs.declared.messages.Message.{Message}
 use Rattle.xk_base.specs.declared.messages.MsgKind.{MsgKind}
 use Rattle.xk_base.specs.declared.messages.MsgKind.TheVariants.{LendMut, Lend, Move, Scalar, BlockingScalar}
 use Rattle.syscall_codec.specs.CallNumbers.{send_message, try_send_message}
-use Rattle.syscall_codec.specs.CallWords.{call_number, send_address, send_cid, send_length}
+use Rattle.syscall_codec.specs.CallWords.{call_number, send_address}
 use Rattle.xk_base.specs.Calls.Kinds.{is_answered}
 use Rattle.syscall_codec.specs.ReplyWords.{message_words, plain_words}
 use Rattle.xk_base.specs.Tables.Circle.{is_thread_id, same_thread}
-use Rattle.xk_base.specs.Tables.Connections.{connected_to}
 use Rattle.xk_base.specs.Tables.Counting.{put_at}
-use Rattle.xk_base.specs.Tables.Sids.{serial_of}
-use Rattle.ledger_model.specs.RunTests.{any_free, any_not_sent}
-use Rattle.machine_model.specs.Calling.MemoryCalls.{caller_place, is_bad_range}
+use Rattle.machine_model.specs.Calling.MemoryCalls.{caller_place}
 use Rattle.machine_model.specs.Messaging.Messages.{is_lend, is_of_number, new_message, new_number}
 use Rattle.machine_model.specs.Messaging.Receivers.{receiver}
-use Rattle.machine_model.specs.Messaging.SendCalls.{arrival, is_full_for, named_kind, sender_answered, sender_left, sends_lend_mut, sends_pages, sent_pages, sent_place, sent_serial, with_sent}
+use Rattle.machine_model.specs.Messaging.SendCalls.{sender_answered, sender_left, sent_pages, with_sent}
 use Rattle.machine_model.specs.Runs.LoanSpan.{is_send}
 use Rattle.machine_model.specs.Runs.Matched.{Matched}
 use Rattle.machine_model.specs.State.Changes.{Change}
-use Rattle.machine_model.specs.State.Connections.{own_connections}
 use Rattle.machine_model.specs.State.Machine.{Machine, Server}
-use Rattle.machine_model.specs.State.Servers.{change_server, server_at}
+use Rattle.machine_model.specs.State.Servers.{change_server}
 use Rattle.machine_model.specs.State.Threads.{Answers, answer_to, both_answers, no_answers}
-use Rattle.machine_laws.proofs.Calling.RunRefusalLemmas.{none_holds}
 use Rattle.machine_laws.proofs.Sending.SentReceiverLemmas.{receiver_receives}
 use Rattle.call_effects.specs.Effects.{arriving, at_server}
-use Rattle.call_effects.specs.Rows.MessageRows.{arrival_answers, send_row, sent_to_row, try_send_row}
-use Rattle.call_effects.proofs.ServedLemmas.{OfPlan, done}
+use Rattle.call_effects.specs.Rows.MessageRows.{arrival_answers}
+use Rattle.call_effects.proofs.ServedLemmas.{done}
 use Rattle.transcript_laws.specs.Following.{Held, Holds, Keeping, Lacks, Over, Queued, Queues, Standing, Stands, Unsent, keeping}
 use Rattle.transcript_laws.specs.Following.{keeping_by}
 use Rattle.transcript_laws.proofs.Following.KeepLemmas.{change_elsewhere, change_here, change_same, queued_other, queued_this, received_as}
@@ -49,6 +41,8 @@ use Rattle.transcript_laws.proofs.Following.ServedLemmas.{none_quiet, one_quiet,
 use Rattle.transcript_laws.proofs.Following.StandLemmas.{holds_not_lacks, now_stands, one_standing, queues_not_lacks, standing_at}
 use Rattle.transcript_laws.proofs.Following.StandLemmas.{unsent_lacks}
 use Rattle.transcript_laws.proofs.Following.TellLemmas.{CallSays, IsQuiet, Sends}
+use Rattle.transcript_laws.proofs.CallKindUseLemmas.{of_either}
+use Rattle.transcript_laws.specs.CallKinds.{IsSending, place_at_server, sending}
 
 -- ---- an arrival
 
@@ -140,15 +134,15 @@ sender_processes true k m = refl
 sender_processes false k m = refl
 
 module _ (number : Number) (m : Machine) (h : Matched m) (w : List ℕ) (call : ℕ) (e : call_number w ≡ call) (none : asks call ≡ false)
-    (sends : is_send (call_number w) ≡ true) (server : Server) (there : m.servers (sent_serial m w).0 ≡ Some server) (first : Vpn) where
+    (sends : is_send (call_number w) ≡ true) (it : IsSending m w) where
   abbrev serial : Serial
-  serial = sent_serial m w
+  serial = it.to.serial
 
   abbrev kind : MsgKind
-  kind = unwrap_or (named_kind w) Scalar
+  kind = it.kind
 
   abbrev x : Message
-  x = new_message m kind w first
+  x = new_message m kind w it.first
 
   abbrev o : Option ThreadId
   o = receiver m serial
@@ -207,8 +201,8 @@ module _ (number : Number) (m : Machine) (h : Matched m) (w : List ℕ) (call : 
       told = arrival_says number x m.processes (sender_answered (is_answered kind) m.cursor) (quiet_sender (is_answered kind)) is o (receiver_known m h serial);
       lost = refl;
       stands = now_stands number m h next serial.0 (arrived_as number x o)
-          (kept serial.0 ∙ (change_here number serial (at_server (arriving o x)) m server there
-          ∙ arrival_this number x is o server (sym (ap (keeping number) there) ∙ unsent_lacks number m h high serial.0)))
+          (kept serial.0 ∙ (change_here number serial (at_server (arriving o x)) m it.to.server it.to.there
+          ∙ arrival_this number x is o it.to.server (sym (ap (keeping number) it.to.there) ∙ unsent_lacks number m h high serial.0)))
           (λ n apart. kept n ∙ (change_elsewhere number serial (at_server (arriving o x)) m n apart ∙ unsent_lacks number m h high n))
           (let same : m.next_number ≡ number.0 = eqb-true m.next_number number.0 is in omega (arith, count, same));
       settled = inl (ap asks e ∙ none);
@@ -226,59 +220,14 @@ module _ (number : Number) (m : Machine) (h : Matched m) (w : List ℕ) (call : 
         go false q = other q a stands
         go true q = this q a stands
 
--- ---- the calls
+-- ---- the call
 
--- the server of an accepted send is there
-pub record HasServerAt (m : Machine) (cid : ℕ) : Type 0 where
-  pub serial : Serial
-  pub is : connected_to (own_connections m) cid ≡ Some serial
-  pub server : Server
-  pub there : m.servers serial.0 ≡ Some server
-
-pub server_there : (m : Machine) (cid : ℕ) → is_none (server_at m cid) ≡ false → HasServerAt m cid
-server_there m cid e = go (connected_to (own_connections m) cid) refl e
-  where
-    at : (serial : Serial) → connected_to (own_connections m) cid ≡ Some serial → (o : Option Server) → m.servers serial.0 ≡ o → is_none o ≡ false → HasServerAt m cid
-    at s is None there f = absurd (false≢true (sym f))
-    at s is (Some found) there f = record { serial = s; is = is; server = found; there = there }
-
-    go : (o : Option Serial) → connected_to (own_connections m) cid ≡ o → is_none (option_and_then (λ (serial : Serial). m.servers serial.0) o) ≡ false → HasServerAt m cid
-    go None is f = absurd (false≢true (sym f))
-    go (Some s) is f = at s is (m.servers s.0) refl f
-
-module _ (number : Number) (m : Machine) (h : Matched m) (w : List ℕ) where
-  served : is_none (server_at m (send_cid w)) ≡ false → (server : Server) × (m.servers (sent_serial m w).0 ≡ Some server)
-  served e =
-      let at = server_there m (send_cid w) e in
-      (at.server, ap (λ (o : Option Serial). m.servers (unwrap_or o (serial_of 0)).0) at.is ∙ at.there)
-
-  sent_follows : (call : ℕ) → call_number w ≡ call → asks call ≡ false → is_send call ≡ true → is_none (server_at m (send_cid w)) ≡ false
-      → OfPlan (λ plan. Follows number m w (done m plan)) (sent_to_row m w)
-  sent_follows call e none sends some = λ free.
-      let at = served some in
-      let kind = unwrap_or (named_kind w) Scalar in
-      let first = unwrap_or (arrival m w) (record { 0 = 0 }) in
-      let paged = with_sent m kind (caller_place m (send_address w)) (sent_pages w) (sent_place m w first) in
-      sent_says number m h w call e none (ap is_send e ∙ sends) at.0 at.1 first _
-      (ap (λ (s : ℕ → Option Server). put_at nat_eq s (sent_serial m w).0 (option_map (at_server (arriving (receiver m (sent_serial m w)) (new_message m kind w first))) (s (sent_serial m w).0)))
-      (sender_servers (is_answered kind) (new_number m) paged))
-      (sender_number (is_answered kind) (new_number m) paged) (sender_processes (is_answered kind) (new_number m) paged)
-
-  abbrev tests : List (Bool × XousError)
-  tests =
-      let first = caller_place m (send_address w) in
-      let n = sent_pages w in
-      (is_none (named_kind w), InvalidSyscall)
-      ∷ (sends_pages w && is_bad_range (send_address w) (send_length w), BadAlignment)
-      ∷ (sends_pages w && any_free m.processes m.ledger first n, BadAddress)
-      ∷ (sends_pages w && any_not_sent m.processes m.ledger first n (sends_lend_mut w), ShareViolation)
-      ∷ []
-
-  pub send_follows : call_number w ≡ send_message → OfPlan (λ plan. Follows number m w (done m plan)) (send_row m w)
-  send_follows e = λ none passed.
-      sent_follows send_message e refl refl (none_holds (is_none (server_at m (send_cid w))) ServerNotFound tests none).0
-
-  pub try_send_follows : call_number w ≡ try_send_message → OfPlan (λ plan. Follows number m w (done m plan)) (try_send_row m w)
-  try_send_follows e = λ none.
-      sent_follows try_send_message e refl refl
-      (none_holds (is_none (server_at m (send_cid w))) ServerNotFound (tests ++ (is_full_for m w, ServerQueueFull) ∷ []) none).0
+pub sends_follows : (number : Number) (m : Machine) → Matched m → (w : List ℕ) → is_send (call_number w) ≡ true → (it : IsSending m w)
+    → Follows number m w (done m (sending m w it.kind it.to.serial (place_at_server it.to.server it.first)))
+sends_follows number m h w is it =
+    let paged = with_sent m it.kind (caller_place m (send_address w)) (sent_pages w) (place_at_server it.to.server it.first) in
+    let x = new_message m it.kind w it.first in
+    sent_says number m h w (call_number w) refl (of_either (λ k. asks k ≡ false) send_message try_send_message (call_number w) refl refl is) is it _
+    (ap (λ (s : ℕ → Option Server). put_at nat_eq s it.to.serial.0 (option_map (at_server (arriving (receiver m it.to.serial) x)) (s it.to.serial.0)))
+    (sender_servers (is_answered it.kind) (new_number m) paged))
+    (sender_number (is_answered it.kind) (new_number m) paged) (sender_processes (is_answered it.kind) (new_number m) paged)

@@ -1,98 +1,84 @@
 -- Every served call leads each message as its records say.
-use Rattle.std.proofs.Common.{◌≡◌, ℕ, ◌<◌, Bool, true, false, List, Option, Some, None, refl, sym, ap, ◌∙◌, subst, arith}
-use Rattle.std.specs.Prelude.{if◌then◌else◌, nat_eq}
+use Rattle.std.proofs.Common.{◌≡◌, ℕ, Bool, true, false, List, Option, Some, None, refl, sym, ap, ◌∙◌}
+use Rattle.std.specs.Prelude.{◌||◌, ◌&&◌, ◌==◌, slice_index, if◌then◌else◌, nat_eq}
 use Rattle.std.proofs.lemmas.Bool.{eqb-true}
 use Rattle.xk_base.specs.declared.ids.Number.{Number}
-use Rattle.syscall_codec.specs.CallNumbers.{map_memory, yield_turn, claim_interrupt, free_interrupt, increase_heap, decrease_heap}
-use Rattle.syscall_codec.specs.CallNumbers.{update_memory_flags, create_server_with_address, receive_message, connect, create_thread}
-use Rattle.syscall_codec.specs.CallNumbers.{unmap_memory, try_connect, try_receive_message, join_thread, get_thread_id, get_process_id}
+use Rattle.syscall_codec.specs.CallNumbers.{create_server_with_address, receive_message}
+use Rattle.syscall_codec.specs.CallNumbers.{try_receive_message}
 use Rattle.syscall_codec.specs.CallWords.{call_number}
-use Rattle.syscall_codec.specs.ReplyWords.{connection_words, new_server_words, plain_words, range_words, scalar1_words, thread_words}
-use Rattle.xk_base.specs.Tables.Counting.{put_at}
+use Rattle.syscall_codec.specs.ReplyWords.{new_server_words}
 use Rattle.xk_base.specs.Tables.Connections.{cid_for}
-use Rattle.machine_model.specs.State.Threads.{answer_to, no_answers}
+use Rattle.machine_model.specs.State.Threads.{answer_to}
 use Rattle.machine_model.specs.Calling.Calls.{call}
-use Rattle.machine_model.specs.Calling.ServerCalls.{named_server, named_sid, new_serial, new_server}
+use Rattle.machine_model.specs.Calling.ServerCalls.{named_sid, new_serial, new_server}
 use Rattle.machine_model.specs.Runs.Matched.{Matched}
 use Rattle.machine_model.specs.State.Connections.{own_connections}
 use Rattle.machine_model.specs.State.Machine.{Machine, Server}
-use Rattle.machine_model.specs.State.Order.{ready_at, turn}
-use Rattle.call_effects.specs.Deciding.{decide, rows}
-use Rattle.call_effects.specs.Rows.ThreadRows.{yield_row}
-use Rattle.call_effects.specs.Verdicts.{Row}
-use Rattle.call_effects.proofs.MeantLemmas.{calls_meant}
-use Rattle.call_effects.proofs.RowLemmas.{OfRows, ◌also◌, of_row}
-use Rattle.call_effects.proofs.ServedLemmas.{OfPlan, OfServed, done, of_plan}
-use Rattle.transcript_laws.specs.Following.{Lacks, is_message_of, keeping}
+use Rattle.machine_model.specs.State.Order.{ready_at}
+use Rattle.call_effects.proofs.ServedLemmas.{OfServed, done}
+use Rattle.transcript_laws.specs.Following.{is_message_of, keeping}
 use Rattle.transcript_laws.proofs.Following.EndLemmas.{destroy_follows, terminate_follows}
-use Rattle.transcript_laws.proofs.Following.ForwardLemmas.{forward_follows}
+use Rattle.transcript_laws.proofs.Following.ForwardLemmas.{passes_follows}
 use Rattle.transcript_laws.proofs.Following.ReceiveLemmas.{taken_follows}
-use Rattle.transcript_laws.proofs.Following.ReturnLemmas.{return_memory_follows, return_scalar1_follows, return_scalar2_follows}
-use Rattle.transcript_laws.proofs.Following.SendLemmas.{send_follows, try_send_follows}
+use Rattle.transcript_laws.proofs.Following.ReturnLemmas.{returns_follows}
+use Rattle.transcript_laws.proofs.Following.SendLemmas.{sends_follows}
 use Rattle.transcript_laws.proofs.Following.ServedLemmas.{Follows, none_quiet, one_quiet, simple}
 use Rattle.transcript_laws.proofs.Following.TellLemmas.{IsQuiet}
+use Rattle.call_effects.specs.Effects.{Effect}
+use Rattle.call_effects.specs.Verdicts.{Plan}
+use Rattle.transcript_laws.proofs.CallKindLemmas.{of_kinds}
+use Rattle.transcript_laws.proofs.CallKindUseLemmas.{is_alone, none_keeps, of_either, own_run}
+use Rattle.transcript_laws.specs.CallKinds.{AnswersCaller, CallKind, DestroysServer, EndsProcess, FindsNone, FoundsServer, IsFounding, IsKeeping, Keeps, Nobody, PassesMessage, ReturnsMessage, SendsMessage, TakesMessage, WithWords, founding, reaches_others}
+use Rattle.machine_model.specs.State.Threads.{Answers}
+use Rattle.transcript_laws.proofs.Following.SayLemmas.{asks}
+use Rattle.transcript_laws.specs.Serving.{is_receive}
+
+-- a call that keeps to its process asks nothing of messages
+alone_asks : (k : ℕ) → reaches_others k ≡ false → asks k ≡ false
+alone_asks k alone = let none = is_alone k alone in λ i. none.forward i || (none.returns i || none.destroy i)
 
 module _ (number : Number) (m : Machine) (h : Matched m) (ready : ready_at m m.cursor ≡ true) (w : List ℕ) where
-  abbrev OfCall : ℕ → Row → Type 0
-  OfCall k row = call_number w ≡ k → OfPlan (λ plan. Follows number m w (done m plan)) (row m w)
-
   -- the caller alone is answered, with other words than a message's
   quietly : (words : List ℕ) → is_message_of number words ≡ false → IsQuiet (answer_to m.cursor words) number (λ id. false)
   quietly words silent = one_quiet number (λ id. false) m.cursor words silent
 
-  nobody : IsQuiet no_answers number (λ id. false)
-  nobody = none_quiet number (λ id. false)
-
-  yield_follows : OfCall yield_turn yield_row
-  unfolding turn
-  yield_follows e = simple number m w h yield_turn e refl _ (λ n. refl) refl (quietly plain_words refl) refl refl refl
+  -- a call that keeps to its process leaves each message
+  keeps_follows : asks (call_number w) ≡ false → (effects : List Effect) (answers : Answers) → IsKeeping m effects answers
+      → Follows number m w (done m (record { effects = effects; answers = answers; gone = None }))
+  keeps_follows none effects answers it =
+      let leaves = own_run m effects m it.own in
+      simple number m w h (call_number w) refl none _ (λ n. ap (λ (s : ℕ → Option Server). keeping number (s n)) leaves.servers) leaves.next_number
+      (by answers it.answered) refl refl leaves.processes
+    where
+      by : (answers : Answers) → AnswersCaller m answers → IsQuiet answers number (λ id. false)
+      by _ (WithWords words plain) = quietly words (ap (λ b. b && (slice_index words 1 == number.0)) plain)
+      by _ Nobody = none_quiet number (λ id. false)
 
   -- a new server has no message
-  founded : (n : ℕ) → keeping number (put_at nat_eq m.servers m.next_serial (Some (new_server m (named_sid w))) n) ≡ keeping number (m.servers n)
-  founded n = go (nat_eq n m.next_serial) refl
+  founds_follows : call_number w ≡ create_server_with_address → IsFounding m w → Follows number m w (done m (founding m w))
+  founds_follows e it =
+      simple number m w h create_server_with_address e refl _ (λ n. go n (nat_eq n m.next_serial) refl) refl
+      (quietly (new_server_words (named_sid w) (cid_for (new_serial m) (own_connections m))) refl) refl refl refl
     where
-      nothing : (o : Option Server) → m.servers m.next_serial ≡ o → Lacks ≡ keeping number o
-      nothing None e = refl
-      nothing (Some server) e = absurd (let low : m.next_serial < m.next_serial = h.rest.above.serials m.next_serial server e in omega arith)
-
-      go : (b : Bool) → nat_eq n m.next_serial ≡ b
+      go : (n : ℕ) (b : Bool) → nat_eq n m.next_serial ≡ b
           → keeping number (if b then Some (new_server m (named_sid w)) else m.servers n) ≡ keeping number (m.servers n)
-      go true q = nothing (m.servers m.next_serial) refl ∙ ap (λ j. keeping number (m.servers j)) (sym (eqb-true n m.next_serial q))
-      go false q = refl
+      go n true q = sym (ap (keeping number) (ap m.servers (eqb-true n m.next_serial q) ∙ it.fresh))
+      go n false q = refl
 
-  each : OfRows (λ k. true) OfCall rows
-  each =
-      (λ e none. simple number m w h map_memory e refl _ (λ n. refl) refl (quietly (range_words _ _) refl) refl refl refl)
-      also yield_follows
-      also (λ e none. simple number m w h claim_interrupt e refl _ (λ n. refl) refl (quietly plain_words refl) refl refl refl)
-      also (λ e none. simple number m w h free_interrupt e refl _ (λ n. refl) refl (quietly plain_words refl) refl refl refl)
-      also (λ e none. simple number m w h increase_heap e refl _ (λ n. refl) refl (quietly (range_words _ _) refl) refl refl refl)
-      also (λ e none. simple number m w h decrease_heap e refl _ (λ n. refl) refl (quietly plain_words refl) refl refl refl)
-      also (λ e none. simple number m w h update_memory_flags e refl _ (λ n. refl) refl (quietly plain_words refl) refl refl refl)
-      also (λ e none. simple number m w h create_server_with_address e refl _ founded refl (quietly (new_server_words (named_sid w) (cid_for (new_serial m) (own_connections m))) refl) refl refl refl)
-      also (λ e none. taken_follows number m h ready w receive_message e refl (named_server m (named_sid w)) _
-      (simple number m w h receive_message e refl _ (λ n. refl) refl nobody refl refl refl))
-      also (λ e. send_follows number m h w e)
-      also (λ e passed none. simple number m w h connect e refl _ (λ n. refl) refl (quietly (connection_words _) refl) refl refl refl)
-      also (λ e none. simple number m w h create_thread e refl _ (λ n. refl) refl (quietly (thread_words _) refl) refl refl refl)
-      also (λ e none. simple number m w h unmap_memory e refl _ (λ n. refl) refl (quietly plain_words refl) refl refl refl)
-      also (λ e. return_memory_follows number m h w e)
-      also (λ e. terminate_follows number m h w e)
-      also (λ e. try_send_follows number m h w e)
-      also (λ e none. simple number m w h try_connect e refl _ (λ n. refl) refl (quietly (connection_words _) refl) refl refl refl)
-      also (λ e. return_scalar1_follows number m h w e)
-      also (λ e. return_scalar2_follows number m h w e)
-      also (λ e none. taken_follows number m h ready w try_receive_message e refl (named_server m (named_sid w)) _
-      (simple number m w h try_receive_message e refl _ (λ n. refl) refl (quietly plain_words refl) refl refl refl))
-      also (λ e none. simple number m w h join_thread e refl _ (λ n. refl) refl nobody refl refl refl)
-      also (λ e. destroy_follows number m h w e)
-      also (λ e. simple number m w h get_thread_id e refl _ (λ n. refl) refl (quietly (thread_words _) refl) refl refl refl)
-      also (λ e. simple number m w h get_process_id e refl _ (λ n. refl) refl (quietly (scalar1_words _) refl) refl refl refl)
-      also (λ e. forward_follows number m h ready w e)
-      also tt
+  receives_asks : is_receive (call_number w) ≡ true → asks (call_number w) ≡ false
+  receives_asks = of_either (λ k. asks k ≡ false) receive_message try_receive_message (call_number w) refl refl
+
+  kind_follows : (plan : Plan) → CallKind m (call_number w) w plan → Follows number m w (done m plan)
+  kind_follows _ (Keeps effects answers alone other it) = keeps_follows (alone_asks (call_number w) alone) effects answers it
+  kind_follows _ (FoundsServer e it) = founds_follows e it
+  kind_follows _ (SendsMessage is it) = sends_follows number m h w is it
+  kind_follows _ (TakesMessage is its x first) =
+      taken_follows number m h ready w (call_number w) refl (receives_asks is) its.serial its.server its.there x first
+  kind_follows _ (FindsNone is its empty) = keeps_follows (receives_asks is) _ _ (none_keeps m (call_number w) its.serial)
+  kind_follows _ (ReturnsMessage is it) = returns_follows number m h w is it
+  kind_follows _ (PassesMessage e it) = passes_follows number m h ready w e it
+  kind_follows _ (DestroysServer e its) = destroy_follows number m h w e its.serial
+  kind_follows _ (EndsProcess e) = terminate_follows number m h w e
 
   pub served_follows : OfServed (Follows number m w) (call m w)
-  unfolding decide
-  served_follows =
-      subst (OfServed (Follows number m w)) (sym (calls_meant m w))
-      (of_plan (Follows number m w) m (decide m w) (λ none. of_row (λ k. true) OfCall (call_number w) refl (λ same. tt) rows each refl))
+  served_follows = of_kinds m h w (Follows number m w) kind_follows

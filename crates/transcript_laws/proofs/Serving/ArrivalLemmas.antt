@@ -29,10 +29,10 @@ use Rattle.machine_laws.proofs.Returning.GivenBackLemmas.{found_at}
 use Rattle.machine_laws.proofs.Sending.SentReceiverLemmas.{receiver_receives}
 use Rattle.call_effects.specs.Effects.{arriving, at_server}
 use Rattle.call_effects.specs.Rows.MessageRows.{arrival_answers}
+use Rattle.call_effects.specs.Held.{IsHeld}
 use Rattle.transcript_laws.specs.Following.{Lacks, keeping}
 use Rattle.transcript_laws.specs.Serving.{Arrives, AtOnce, Ends, IsFirstWaiting, ListStep, Lists, LosesSender, Queues, Receives, ServerStep}
 use Rattle.transcript_laws.specs.Serving.{Stays}
-use Rattle.transcript_laws.proofs.Following.ReturnLemmas.{IsHolder}
 use Rattle.transcript_laws.proofs.Following.StandLemmas.{some_not_lacks}
 use Rattle.transcript_laws.proofs.Serving.AtServerLemmas.{AreMeant, LoseTheirServer, none_meant, one_meant, refused_meant}
 use Rattle.transcript_laws.proofs.Serving.ReceiverLemmas.{first_waiting}
@@ -71,7 +71,7 @@ one_waited (Some t) a b p q = go t.state p q
     go Idle p q = absurd (false≢true p)
 
 -- the sender of a held message waits for the answer to it
-pub sender_waits : (m : Machine) → Matched m → (test : Message → Bool) (x : Message) → IsHolder m test x → (who : ThreadId) → x.sender ≡ Some who
+pub sender_waits : (m : Machine) → Matched m → (test : Message → Bool) (x : Message) → IsHeld m test x → (who : ThreadId) → x.sender ≡ Some who
     → waits_for m.threads who x.number ≡ true
 sender_waits m h test x at who sender = go (waits_for m.threads who x.number) refl (h.body.senders.senders who x.number)
   where

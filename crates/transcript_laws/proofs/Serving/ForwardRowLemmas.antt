@@ -1,10 +1,9 @@
 -- What an accepted forward does at each server.
-use Rattle.std.proofs.Common.{◌≡◌, ◌≢◌, ℕ, Bool, true, false, List, [], ◌∷◌, Option, Some, None, refl, sym, ap, ◌∙◌, subst}
-use Rattle.std.specs.Prelude.{if◌then◌else◌, is_none, is_some, nat_eq, unwrap_or}
+use Rattle.std.proofs.Common.{◌≡◌, ◌≢◌, ℕ, Bool, true, false, List, Option, Some, None, refl, sym, ap, ◌∙◌, subst}
+use Rattle.std.specs.Prelude.{if◌then◌else◌, is_some, nat_eq}
 use Rattle.std.specs.Option.{option_map}
-use Rattle.std.proofs.lemmas.Bool.{and_parts, eq-eqb, eqb-true, false≢true}
+use Rattle.std.proofs.lemmas.Bool.{and_parts, eq-eqb, eqb-true}
 use Rattle.std.proofs.lemmas.Option.{slice_get-get_or}
-use Rattle.xk_base.specs.declared.errors.XousError.TheVariants.{DoubleFree, InvalidSyscall, ServerNotFound, ServerQueueFull}
 use Rattle.xk_base.specs.declared.ids.Pid.{Pid}
 use Rattle.xk_base.specs.declared.ids.Serial.{Serial}
 use Rattle.xk_base.specs.declared.ids.Vpn.{Vpn}
@@ -13,26 +12,25 @@ use Rattle.syscall_codec.specs.CallNumbers.{forward_message}
 use Rattle.syscall_codec.specs.CallWords.{call_number, forward_cid, forward_token}
 use Rattle.syscall_codec.specs.ReplyWords.{plain_words}
 use Rattle.xk_base.specs.Tables.Connections.{connected_to}
-use Rattle.xk_base.specs.Tables.Sids.{serial_of}
-use Rattle.machine_model.specs.Messaging.ForwardCalls.{are_one_server, is_passable_of, next_arrival, passable, passed_from, passed_number, passed_to, with_first}
+use Rattle.machine_model.specs.Messaging.ForwardCalls.{is_passable_of, passed_number, passed_to, with_first}
 use Rattle.machine_model.specs.Messaging.Messages.{is_lend, is_lend_of, is_of_number, without_held}
 use Rattle.machine_model.specs.Messaging.Receivers.{receiver}
 use Rattle.machine_model.specs.Runs.Matched.{Matched}
 use Rattle.machine_model.specs.Runs.Moments.{Cause}
 use Rattle.machine_model.specs.State.Machine.{Machine, Server}
-use Rattle.machine_model.specs.State.Servers.{change_server, is_full, server_at}
+use Rattle.machine_model.specs.State.Servers.{change_server}
 use Rattle.machine_model.specs.State.Threads.{answer_to}
-use Rattle.machine_laws.proofs.Calling.RunRefusalLemmas.{none_holds}
 use Rattle.machine_laws.proofs.Returning.GivenBackLemmas.{found_at}
 use Rattle.call_effects.specs.Effects.{arriving, at_server}
-use Rattle.call_effects.specs.Rows.MessageRows.{arrival_answers, forward_row, passed_if}
-use Rattle.call_effects.proofs.ServedLemmas.{OfPlan, done}
+use Rattle.call_effects.specs.Rows.MessageRows.{arrival_answers}
+use Rattle.call_effects.proofs.ServedLemmas.{done}
+use Rattle.call_effects.specs.Held.{IsHeld}
 use Rattle.transcript_laws.specs.Following.{Lacks, keeping}
 use Rattle.transcript_laws.specs.Serving.{Forwards, IsForwarded, IsForwardedTo, IsServedBy, ListStep, Lists, ServerStep, Stays}
-use Rattle.transcript_laws.proofs.Following.ReturnLemmas.{IsHolder, holder, holder_own}
-use Rattle.transcript_laws.proofs.Following.SendLemmas.{HasServerAt, arrival_kept, lend_answered, server_there}
+use Rattle.transcript_laws.proofs.Following.SendLemmas.{arrival_kept, lend_answered}
 use Rattle.transcript_laws.proofs.Serving.AtServerLemmas.{AreMeant, Serves, both_meant}
 use Rattle.transcript_laws.proofs.Serving.ArrivalLemmas.{arrival_meant, arrival_step}
+use Rattle.transcript_laws.specs.CallKinds.{IsPassing, passing, place_at_server}
 
 module _ (cause : Cause) (m : Machine) (h : Matched m) (w : List ℕ) (served_by : (pid : Pid) → m.cursor.pid ≡ pid → IsServedBy pid w cause m)
     (plain : (servers : ℕ → Option Server) → AreMeant cause m servers (answer_to m.cursor plain_words)) where
@@ -46,7 +44,7 @@ module _ (cause : Cause) (m : Machine) (h : Matched m) (w : List ℕ) (served_by
       (and_parts (is_lend_of (passed_number w) x) (is_some x.sender) passes).0).1
 
   -- the message as it arrives at the other server
-  abbrev pub passed_to_it : call_number w ≡ forward_message → (x : Message) (at : IsHolder m (is_passable_of (passed_number w)) x) (to : Serial) → to.0 ≢ at.serial.0
+  abbrev pub passed_to_it : call_number w ≡ forward_message → (x : Message) (at : IsHeld m (is_passable_of (passed_number w)) x) (to : Serial) → to.0 ≢ at.serial.0
       → passed_to m (forward_cid w) ≡ Some to → (first : Vpn) → IsForwardedTo to.0 (with_first first x) cause m
   passed_to_it e x at to apart leads first =
       let place = found_at (is_passable_of (passed_number w)) at.server.held x at.found in
@@ -57,9 +55,9 @@ module _ (cause : Cause) (m : Machine) (h : Matched m) (w : List ℕ) (served_by
         server = at.server;
         there = at.there;
         words = w;
-        served = served_by at.server.pid (sym (holder_own m (is_passable_of (passed_number w)) x at));
+        served = served_by at.server.pid (sym at.own);
         forwards = e;
-        leads = ap (λ (p : Pid). connected_to (m.process p.0).connections (forward_cid w)) (holder_own m (is_passable_of (passed_number w)) x at) ∙ leads;
+        leads = ap (λ (p : Pid). connected_to (m.process p.0).connections (forward_cid w)) at.own ∙ leads;
         apart = apart;
         place = place.0;
         held = x;
@@ -70,7 +68,7 @@ module _ (cause : Cause) (m : Machine) (h : Matched m) (w : List ℕ) (served_by
         is = refl;
       }
 
-  forwarded : (x : Message) (at : IsHolder m (is_passable_of (passed_number w)) x) (to : Serial) → to.0 ≢ at.serial.0 → (target : Server)
+  forwarded : (x : Message) (at : IsHeld m (is_passable_of (passed_number w)) x) (to : Serial) → to.0 ≢ at.serial.0 → (target : Server)
       → m.servers to.0 ≡ Some target → (first : Vpn) → call_number w ≡ forward_message → passed_to m (forward_cid w) ≡ Some to → (next : Machine)
       → next.servers ≡ (change_server to (at_server (arriving (receiver m to) (with_first first x))) (change_server at.serial (without_held x.number) m)).servers
       → (n : ℕ) → Goes next n
@@ -109,7 +107,7 @@ module _ (cause : Cause) (m : Machine) (h : Matched m) (w : List ℕ) (served_by
       -- it is at the other server then
       at_target : (keeping x.number (next.servers to.0)) ≢ Lacks
       at_target lacks =
-          arrival_kept x.number (with_first first x) (eq-eqb x.number.0 x.number.0 refl) (lend_answered x.kind (lends_of x (found_at (is_passable_of (passed_number w)) at.server.held x at.found).4)) (receiver m to) target
+          arrival_kept x.number (with_first first x) (eq-eqb x.number.0 x.number.0 refl) (lend_answered x.kind (lends_of x at.passes)) (receiver m to) target
           (sym (ap (keeping x.number) there) ∙ lacks)
         where
           there : next.servers to.0 ≡ Some arrived
@@ -133,55 +131,12 @@ module _ (cause : Cause) (m : Machine) (h : Matched m) (w : List ℕ) (served_by
               (Forwards to.0 (with_first first x) (passed_to_it e x at to apart leads first) (sym (eqb-true n at.serial.0 r)) at_target refl)
           by false r = Stays (now false q ∙ ap (λ c. if c then option_map (without_held x.number) (m.servers at.serial.0) else m.servers n) r)
 
-  by_message : call_number w ≡ forward_message → (o : Option Message) → passable m (passed_number w) ≡ o → is_none o ≡ false → is_none (server_at m (forward_cid w)) ≡ false
-      → are_one_server (passed_from m (passed_number w)) (passed_to m (forward_cid w)) ≡ false → (first : Vpn)
-      → OfPlan (λ plan. Serves cause m (done m plan)) (passed_if m (passed_number w) (forward_cid w) first o)
-  by_message e None there some live apart first = absurd (false≢true (sym some))
-  by_message e (Some x) there some live apart first = record {
-    servers = forwarded x at (unwrap_or (passed_to m (forward_cid w)) (serial_of 0)) distinct live_at.server to_there first e leads _ servers;
-    answers = both_meant cause m _ (arrival_answers (receiver m (unwrap_or (passed_to m (forward_cid w)) (serial_of 0))) (with_first first x)) (answer_to m.cursor plain_words)
-        (arrival_meant cause m h (unwrap_or (passed_to m (forward_cid w)) (serial_of 0)) (with_first first x) (IsForwarded passes) _) (plain _);
+  pub passes_serves : call_number w ≡ forward_message → (it : IsPassing m w)
+      → Serves cause m (done m (passing m it.message it.held.serial it.to.serial (place_at_server it.to.server it.first)))
+  passes_serves e it = record {
+    servers = forwarded it.message it.held it.to.serial it.apart it.to.server it.to.there it.first e it.to.leads _ refl;
+    answers = both_meant cause m _ (arrival_answers (receiver m it.to.serial) (with_first it.first it.message)) (answer_to m.cursor plain_words)
+        (arrival_meant cause m h it.to.serial (with_first it.first it.message)
+        (IsForwarded (passed_to_it e it.message it.held it.to.serial it.apart it.to.leads it.first)) _) (plain _);
     delivery = refl;
   }
-    where
-      at : IsHolder m (is_passable_of (passed_number w)) x
-      at = holder m (is_passable_of (passed_number w)) x there
-
-      live_at : HasServerAt m (forward_cid w)
-      live_at = server_there m (forward_cid w) live
-
-      to_there : m.servers (unwrap_or (passed_to m (forward_cid w)) (serial_of 0)).0 ≡ Some live_at.server
-      to_there = ap (λ (o : Option Serial). m.servers (unwrap_or o (serial_of 0)).0) live_at.is ∙ live_at.there
-
-      distinct : (unwrap_or (passed_to m (forward_cid w)) (serial_of 0)).0 ≢ at.serial.0
-      distinct same =
-          false≢true (sym apart
-          ∙ ((λ i. are_one_server (at.is i) (live_at.is i))
-          ∙ eq-eqb at.serial.0 live_at.serial.0 (sym same ∙ ap (λ (o : Option Serial). (unwrap_or o (serial_of 0)).0) live_at.is)))
-
-      leads : passed_to m (forward_cid w) ≡ Some (unwrap_or (passed_to m (forward_cid w)) (serial_of 0))
-      leads = live_at.is ∙ ap (λ o. Some (unwrap_or o (serial_of 0))) (sym live_at.is)
-
-      passes : IsForwardedTo (unwrap_or (passed_to m (forward_cid w)) (serial_of 0)).0 (with_first first x) cause m
-      passes = passed_to_it e x at (unwrap_or (passed_to m (forward_cid w)) (serial_of 0)) distinct leads first
-
-      servers : (change_server (unwrap_or (passed_to m (forward_cid w)) (serial_of 0)) (at_server (arriving (receiver m (unwrap_or (passed_to m (forward_cid w)) (serial_of 0))) (with_first first x)))
-          (change_server (unwrap_or (passed_from m (passed_number w)) (serial_of 0)) (without_held x.number) m)).servers
-          ≡ (change_server (unwrap_or (passed_to m (forward_cid w)) (serial_of 0)) (at_server (arriving (receiver m (unwrap_or (passed_to m (forward_cid w)) (serial_of 0))) (with_first first x)))
-          (change_server at.serial (without_held x.number) m)).servers
-      servers =
-          ap (λ (o : Option Serial). (change_server (unwrap_or (passed_to m (forward_cid w)) (serial_of 0)) (at_server (arriving (receiver m (unwrap_or (passed_to m (forward_cid w)) (serial_of 0))) (with_first first x)))
-          (change_server (unwrap_or o (serial_of 0)) (without_held x.number) m)).servers) at.is
-
-  pub forward_serves : call_number w ≡ forward_message → OfPlan (λ plan. Serves cause m (done m plan)) (forward_row m w)
-  forward_serves e = λ none free.
-      let one = none_holds (is_none (passable m (passed_number w))) DoubleFree
-      ((is_none (server_at m (forward_cid w)), ServerNotFound)
-      ∷ (are_one_server (passed_from m (passed_number w)) (passed_to m (forward_cid w)), InvalidSyscall)
-      ∷ (is_full (server_at m (forward_cid w)), ServerQueueFull)
-      ∷ []) none in
-      let two = none_holds (is_none (server_at m (forward_cid w))) ServerNotFound
-      ((are_one_server (passed_from m (passed_number w)) (passed_to m (forward_cid w)), InvalidSyscall) ∷ (is_full (server_at m (forward_cid w)), ServerQueueFull) ∷ []) one.1 in
-      let three = none_holds (are_one_server (passed_from m (passed_number w)) (passed_to m (forward_cid w))) InvalidSyscall
-      ((is_full (server_at m (forward_cid w)), ServerQueueFull) ∷ []) two.1 in
-      by_message e (passable m (passed_number w)) refl one.0 two.0 three.0 (unwrap_or (next_arrival m (passed_number w) (forward_cid w)) (record { 0 = 0 }))
