@@ -1,4 +1,5 @@
-"""Lines of the crates that stand twice: runs of equal lines in src/ and specs/, without blank lines, comments and imports."""
+"""Lines of the crates that stand twice: runs of equal lines in src/ and specs/, without blank lines, comments, imports, and what
+stands above a module."""
 
 import pathlib
 from collections.abc import Iterator
@@ -6,7 +7,7 @@ from dataclasses import dataclass
 
 ROOT = pathlib.Path(__file__).resolve().parents[2]
 RUN = 8  # the fewest lines of a run
-PASSED_OVER = ("//", "--", "use ", "ghost use ", "pub use ", "mod ", "pub mod ", "ghost mod ")
+PASSED_OVER = ("//", "--", "use ", "ghost use ", "pub use ", "mod ", "pub mod ", "ghost mod ", "#[cfg(test)]", "#![")
 
 
 @dataclass(frozen=True)

@@ -51,7 +51,7 @@ class Calls(Case):
         codec = next(row for row in rows if row.startswith("| `syscall_codec` | src/calls, src/encode, "))
         self.assertIn(", specs/CallNumbers, specs/CallWords, ", codec)
         self.assertFalse(any("xk_base" in row or "trace_text" in row for row in rows))
-        self.assertRegex(rows[-1], r"^GetProcessId: \d+ files, DecreaseHeap: \d+ files\.$")
+        self.assertRegex(rows[-1], r"^GetProcess\w+: \d+ files, Decrease\w+: \d+ files\.$")
 
 
 class Doubles(Case):
@@ -74,6 +74,11 @@ class Doubles(Case):
         wanted = [("crates/two/src/lib.rt", place, "crates/one/src/lib.rt", 2 + at) for at, place in enumerate(places_of_two)]
         self.assertEqual(self.found(), wanted)
         self.assertEqual(list(doubles.runs(doubles.doubled(self.folder))), ["crates/two/src/lib.rt:2 is as crates/one/src/lib.rt:2"])
+
+    def test_modules(self):
+        for crate in ("one", "two"):
+            self.write(f"{crate}/src/lib.rt", ["#![tactic(auto)]", *(line for at in range(9) for line in ("#[cfg(test)]", f"mod m{at};"))])
+        self.assertEqual(self.found(), [])
 
     def test_one_line_over_and_over(self):
         """A run isn't its own double."""
