@@ -2,6 +2,7 @@
 
 import os
 import pathlib
+import re
 import shutil
 import signal
 import subprocess
@@ -18,6 +19,7 @@ PROGRAM = '''#!/bin/sh
 [ $# -gt 0 ] || { echo "usage: xousim COMMAND" >&2; exit 2; }
 echo "TEXT $*"
 '''
+FIRST_TIME = re.search('^first_time="(.*)"$', (TOP / "xousim").read_text(), re.M)[1]
 # Stand-ins for rt, which runs in the program's folder and has its words `run`.
 GOOD = """echo 'crate base: proved'; echo 'crate xousim: proved'
 mkdir -p out && cp "$STANDIN/built" out/xousim && chmod 755 out/xousim
@@ -139,6 +141,7 @@ class Launcher(unittest.TestCase):
             status, out, said = self.tree.start("--help", name=name)
             self.assertEqual((status, said), (0, ""))
             self.assertTrue(out.startswith(f"usage: {name} ") and "event fault at line N" in out)
+            self.assertIn(f"which takes {FIRST_TIME}. tools/xous-try", out)
             version = (TOP / "VERSION").read_text()
             self.assertEqual(self.tree.start("--version", name=name), (0, f"{name} {version}", ""))
         self.assertEqual(self.tree.count("starts"), 0)
@@ -160,7 +163,7 @@ class Launcher(unittest.TestCase):
         """A start that builds says how long that takes, and what gives a first look. It never takes an unproved build by itself."""
         _, _, said = self.tree.start()
         sentence = (
-            "xousim: proving and building 2 crates, which takes up to an hour the first time; for a first look without a proof, "
+            f"xousim: proving and building 2 crates, which takes {FIRST_TIME} the first time; for a first look without a proof, "
             "tools/xous-try runs a command of xousim in a minute or two"
         )
         self.assertEqual(said.splitlines()[0], sentence)
