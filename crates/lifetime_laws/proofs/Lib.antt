@@ -12,6 +12,7 @@ pub mod MemoryLemmas
 pub mod OrphanLemmas
 pub mod OverLemmas
 pub mod OwnerLemmas
+pub mod PassingLemmas
 pub mod PlantedLemmas
 pub mod RunLemmas
 pub mod SchedulingLemmas

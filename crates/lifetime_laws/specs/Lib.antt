@@ -5,6 +5,7 @@ pub mod Counts
 pub mod Deeds
 pub mod Lives
 pub mod Owners
+pub mod Passing
 pub mod Planted
 pub mod Scheduling
 pub mod Tracing
