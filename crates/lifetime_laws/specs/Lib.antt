@@ -7,6 +7,7 @@ pub mod Lives
 pub mod Owners
 pub mod Passing
 pub mod Planted
+pub mod Prompt
 pub mod Scheduling
 pub mod Tracing
 pub mod Untouched

@@ -3,12 +3,14 @@
 //! The definitions stand in `specs/`; the functions have no code, and their contracts are the theorems.
 #![tactic(auto)]
 
+mod answers;
 mod connections;
 mod pages;
 mod scheduling;
 mod untouched;
 mod waiting;
 
+pub use answers::served_clients_are_answered;
 pub use connections::connections_come_of_own_calls;
 pub use pages::{
     only_stores_change_bytes, owners_change_by_moves, pages_add_up,
