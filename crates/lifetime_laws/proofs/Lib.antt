@@ -7,15 +7,20 @@ pub mod CountLemmas
 pub mod DeathLemmas
 pub mod EndedLemmas
 pub mod GivenLemmas
+pub mod HeldLemmas
 pub mod LoanCallLemmas
 pub mod MemoryLemmas
 pub mod OrphanLemmas
 pub mod OverLemmas
 pub mod OwnerLemmas
+pub mod PassingLemmas
 pub mod PlantedLemmas
+pub mod PromptLemmas
+pub mod QueueLemmas
 pub mod RunLemmas
 pub mod SchedulingLemmas
 pub mod SendLemmas
+pub mod SenderLemmas
 pub mod ServedLemmas
 pub mod StepLemmas
 pub mod StoreLemmas
@@ -27,3 +32,4 @@ pub mod UntouchedThreadLemmas
 pub mod WaitingAnswerLemmas
 pub mod WaitingAskedLemmas
 pub mod WaitingRunLemmas
+pub mod WorkLemmas

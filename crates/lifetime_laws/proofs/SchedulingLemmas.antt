@@ -57,7 +57,8 @@ turn_nearer m d h cursor ready apart = next_nearer m m.cursor d cursor (ready_kn
 
 -- ---- one moment
 
-sound_next : (n : ℕ) (start : Machine) (moment : Moment) → IsSound n start → moment.machine ≡ caused moment.cause start → IsSound n moment.machine
+sound_next : (n : ℕ) (start : Machine) (moment : Moment) → IsSound n start → moment.machine ≡ caused moment.cause start
+    → IsSound n moment.machine
 sound_next n start moment h leads =
     subst (IsSound n) (sym leads) (record {
       matched = every_cause_keeps moment.cause start h.matched;
@@ -66,7 +67,8 @@ sound_next n start moment h leads =
     })
 
 -- somebody acts where a thread is Ready
-someone_acts : (m : Machine) (d : ThreadId) → Matched m → is_thread_id m.processes m.cursor ≡ true → ready_at m d ≡ true → is_some (actor m) ≡ true
+someone_acts : (m : Machine) (d : ThreadId) → Matched m → is_thread_id m.processes m.cursor ≡ true → ready_at m d ≡ true
+    → is_some (actor m) ≡ true
 someone_acts m d h cursor ready = ready_has_actor m d (and_parts _ _ cursor).0 (ready_known m h d ready) ready
 
 -- ---- runs
@@ -79,7 +81,8 @@ module _ (n most : ℕ) (d : ThreadId) (known : is_thread_id n d ≡ true) (budg
     step : DoesStep d start moments at
     soon : (state_at start moments at).steps ≤ budget
 
-  later : (start : Machine) (moment : Moment) (moments : List Moment) (last : ℕ) → Found moment.machine moments last → Found start (moment ∷ moments) (suc last)
+  later : (start : Machine) (moment : Moment) (moments : List Moment) (last : ℕ) → Found moment.machine moments last
+      → Found start (moment ∷ moments) (suc last)
   unfolding state_at
   later start moment moments last f = record {
     at = suc f.at;
@@ -170,7 +173,8 @@ module _ (n most : ℕ) (d : ThreadId) (known : is_thread_id n d ≡ true) (budg
   no_farther_costs a f le = mul-le-mul_left most (omega arith)
 
   -- a fresh tick doesn't end while a thread is Ready
-  fresh_goes_on : (rest : ℕ) (m : Machine) (moments : List Moment) → Ticked most rest true m moments → is_some (actor m) ≡ true → ¬ IsTickEnd moments 0
+  fresh_goes_on : (rest : ℕ) (m : Machine) (moments : List Moment) → Ticked most rest true m moments → is_some (actor m) ≡ true
+      → ¬ IsTickEnd moments 0
   unfolding Ticked
   fresh_goes_on rest m [] t acts ends = none-some ends.0 ends.1
   fresh_goes_on rest m (moment ∷ moments) t acts ends =
@@ -299,7 +303,8 @@ module _ (n most : ℕ) (d : ThreadId) (known : is_thread_id n d ≡ true) (budg
 
   -- ---- until the cursor is at the thread
 
-  walk : (rest : ℕ) (fresh : Bool) (start : Machine) (moments : List Moment) (last : ℕ) → Goes rest fresh start moments last → start.cursor ≢ d
+  walk : (rest : ℕ) (fresh : Bool) (start : Machine) (moments : List Moment) (last : ℕ) → Goes rest fresh start moments last
+      → start.cursor ≢ d
       → start.steps + Left rest start ≤ budget → Found start moments last
   unfolding Ticked
   walk rest fresh start moments zero g apart le =
@@ -310,7 +315,8 @@ module _ (n most : ℕ) (d : ThreadId) (known : is_thread_id n d ≡ true) (budg
   walk rest fresh start (moment ∷ moments) (suc last) g apart le =
       go moment.cause refl g.ticked (λ r f g apart le. walk r f moment.machine moments last g apart le)
     where
-      by_actor : (o : Option ThreadId) → actor start ≡ o → moment.cause ≡ ByStep → 1 ≤ rest → Ticked most (rest - 1) false moment.machine moments
+      by_actor : (o : Option ThreadId) → actor start ≡ o → moment.cause ≡ ByStep → 1 ≤ rest
+          → Ticked most (rest - 1) false moment.machine moments
           → ((r : ℕ) (f : Bool) → Goes r f moment.machine moments last → moment.machine.cursor ≢ d → moment.machine.steps + Left r moment.machine ≤ budget
           → Found moment.machine moments last)
           → Found start (moment ∷ moments) (suc last)
@@ -409,7 +415,8 @@ module _ (n most : ℕ) (d : ThreadId) where
     soon = w.soon;
   }
 
-  line_from : (start : Machine) (moment : Moment) (moments : List Moment) (first last : ℕ) → IsInLine d start (moment ∷ moments) (suc first) (suc last)
+  line_from : (start : Machine) (moment : Moment) (moments : List Moment) (first last : ℕ)
+      → IsInLine d start (moment ∷ moments) (suc first) (suc last)
       → IsInLine d moment.machine moments first last
   unfolding state_at
   line_from start moment moments first last line = record {
@@ -424,7 +431,8 @@ module _ (n most : ℕ) (d : ThreadId) where
     });
   }
 
-  from_first : (rest : ℕ) (fresh : Bool) (start : Machine) (moments : List Moment) (first last : ℕ) → first ≤ last → IsSound n start → IsRun start moments
+  from_first : (rest : ℕ) (fresh : Bool) (start : Machine) (moments : List Moment) (first last : ℕ) → first ≤ last → IsSound n start
+      → IsRun start moments
       → Ticked most rest fresh start moments → rest ≤ most → IsInLine d start moments first last
       → (state_at start moments first).steps + steps_ahead most n < (state_at start moments last).steps → Within start moments first last
   unfolding IsRun state_at Ticked
@@ -463,7 +471,8 @@ module _ (n most : ℕ) (d : ThreadId) where
       go (ByKill pid) t later = absurd t
       go ByTurn t later = later most true t.1 (omega arith)
 
-pub steps_are_fair : (events : List Event) (limit most : ℕ) (start : Machine) → Matched start → IsTrue (is_thread_id start.processes start.cursor)
+pub steps_are_fair : (events : List Event) (limit most : ℕ) (start : Machine) → Matched start
+    → IsTrue (is_thread_id start.processes start.cursor)
     → AreTicksUpTo most events → AreStepsFair most start (moments_of events limit start)
 steps_are_fair events limit most start h cursor ticks who first last le line more =
     from_first start.processes most who most true start (moments_of events limit start) first last le

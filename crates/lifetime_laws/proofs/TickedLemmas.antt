@@ -59,7 +59,8 @@ module _ (most : ℕ) where
       go true e true next = tt
       go true e false next = (omega arith, next)
 
-  pub history_ticked : (events : List Event) (limit : ℕ) (m : Machine) → AreTicksUpTo most events → Ticked most most true m (moments_of events limit m)
+  pub history_ticked : (events : List Event) (limit : ℕ) (m : Machine) → AreTicksUpTo most events
+      → Ticked most most true m (moments_of events limit m)
   unfolding Ticked moments_of event_moments play
   history_ticked [] limit m h = tt
   history_ticked (Tick n ∷ events) limit m h =

@@ -5,7 +5,9 @@ pub mod Counts
 pub mod Deeds
 pub mod Lives
 pub mod Owners
+pub mod Passing
 pub mod Planted
+pub mod Prompt
 pub mod Scheduling
 pub mod Tracing
 pub mod Untouched

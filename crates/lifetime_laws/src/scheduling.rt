@@ -1,12 +1,16 @@
-//! How soon a Ready thread goes on. The definitions stand in `specs/` and the lemmas in `proofs/`; the function has no code, and its
-//! contract is the theorem.
+//! How soon a Ready thread goes on. The definitions stand in `specs/` and the lemmas in `proofs/`; the functions have no code, and their
+//! contracts are the theorems.
 
-ghost use Rattle.std.specs.Prelude.{ℕ, IsTrue, List};
+ghost use Rattle.std.specs.Prelude.{◌≡◌, ℕ, ◌+◌, ◌≤◌, IsTrue, List};
 ghost use Rattle.xk_base.specs.declared.events.Event.{Event};
+ghost use Rattle.xk_base.specs.declared.ids.ThreadId.{ThreadId};
 ghost use Rattle.xk_base.specs.Tables.Circle.{is_thread_id};
+ghost use Rattle.machine_laws.specs.History.{history};
 ghost use Rattle.machine_laws.specs.HistoryMoments.{moments_of};
 ghost use Rattle.machine_model.specs.Runs.Matched.{Matched};
 ghost use Rattle.machine_model.specs.State.Machine.{Machine};
+ghost use Rattle.transcript_laws.specs.Turns.{IsStarvedBy};
+ghost use Rattle.lifetime_laws.specs.Passing.{IsPassedOver, ticks_of_one};
 ghost use Rattle.lifetime_laws.specs.Scheduling.{AreStepsFair, AreTicksUpTo};
 
 /// **A Ready thread goes on.** If nothing comes but ticks of 1 to `most` steps, at most `most` steps for each other thread id come before
@@ -15,4 +19,13 @@ ghost use Rattle.lifetime_laws.specs.Scheduling.{AreStepsFair, AreTicksUpTo};
 pub fn steps_are_fair()
     ensures { (events : List Event) (limit most : ℕ) (start : Machine) → Matched start → IsTrue (is_thread_id start.processes start.cursor)
         → AreTicksUpTo most events → AreStepsFair most start (moments_of events limit start) }
+{}
+
+/// **Retries can starve a thread.** For every number of steps, that many events `tick 1` do them all in one thread whose call is retried,
+/// while another is Ready all the while. So a client that sends to a full server can keep the server from making room.
+pub fn retries_can_starve()
+    ensures others { (n limit : ℕ) (m : Machine) (who other : ThreadId) → IsPassedOver who other m → m.steps + n ≤ limit
+        → IsStarvedBy who other m (moments_of (ticks_of_one n) limit m) }
+    ensures steps { (n limit : ℕ) (m : Machine) (who other : ThreadId) → IsPassedOver who other m → m.steps + n ≤ limit
+        → (history (ticks_of_one n) limit m).machine.steps ≡ m.steps + n }
 {}
