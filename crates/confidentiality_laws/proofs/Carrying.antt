@@ -1,3 +1,4 @@
+pub mod AlikeLemmas
 pub mod CallTableLemmas
 pub mod ChangeLemmas
 pub mod EffectLemmas

@@ -1,4 +1,5 @@
 pub mod Carrying
+pub mod CauseCaseLemmas
 pub mod Histories
 pub mod Isolating
 pub mod Keeping

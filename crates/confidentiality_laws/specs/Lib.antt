@@ -1,3 +1,4 @@
+pub mod CallViews
 pub mod Differences
 pub mod EmptyPlaces
 pub mod TwoHistories

@@ -27,7 +27,6 @@ use Rattle.machine_laws.proofs.Threading.ThreadStepLemmas.{turned_to}
 use Rattle.machine_laws.proofs.Returning.GivenBackLemmas.{found_at}
 use Rattle.call_effects.proofs.HeldLemmas.{is_held}
 use Rattle.noninterference_laws.specs.Fates.{IsAtServerOf, IsBrought, IsSend, MadeCall, Passed, Sent}
-use Rattle.noninterference_laws.proofs.OtherLemmas.{same_pid}
 
 module _ (m : Machine) (who : ThreadId) (w : List ℕ) where
   abbrev here : Machine

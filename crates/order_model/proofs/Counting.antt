@@ -2,4 +2,3 @@ pub mod ActLemmas
 pub mod EffectLemmas
 pub mod SliceLemmas
 pub mod StepLemmas
-pub mod VerdictLemmas

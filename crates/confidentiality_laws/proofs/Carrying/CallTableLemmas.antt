@@ -5,20 +5,15 @@ use Rattle.ledger_model.specs.Steps.{zero_page}
 use Rattle.machine_model.specs.Calling.Calls.{call}
 use Rattle.machine_model.specs.State.Changes.{Outcome, Refused, Retried, Served}
 use Rattle.machine_model.specs.State.Machine.{Machine}
-use Rattle.call_effects.specs.Deciding.{decide}
-use Rattle.call_effects.specs.Verdicts.{meant}
-use Rattle.call_effects.proofs.MeantLemmas.{calls_meant}
+use Rattle.confidentiality_laws.proofs.Carrying.AlikeLemmas.{call_mapped}
 use Rattle.confidentiality_laws.proofs.Carrying.ChangeLemmas.{Carries, IsBlind, outcome_through, with_left}
-use Rattle.confidentiality_laws.proofs.Carrying.EffectLemmas.{meant_through}
-use Rattle.confidentiality_laws.proofs.Carrying.VerdictLemmas.{decide_alike}
+use Rattle.confidentiality_laws.proofs.Carrying.EffectLemmas.{effect_through}
+use Rattle.confidentiality_laws.proofs.Carrying.VerdictLemmas.{view_through}
 use Rattle.confidentiality_laws.proofs.Ledgers.OtherBytesLemmas.{machine_through, no_bytes, through_twice}
 use Rattle.confidentiality_laws.proofs.Ledgers.PairLemmas.{both, first, first_zero_page, both_first, second, second_zero_page, both_second}
 
 pub call_carries : (g : List ℕ → List ℕ) → g zero_page ≡ zero_page → Carries g call
-call_carries g zeros m w =
-    ap (outcome_through g) (calls_meant m w)
-    ∙ (meant_through g zeros m (decide m w)
-    ∙ (ap (meant (machine_through g m)) (decide_alike g m w) ∙ sym (calls_meant (machine_through g m) w)))
+call_carries g zeros = call_mapped (machine_through g) (effect_through g zeros) (view_through g)
 
 -- ---- blind
 

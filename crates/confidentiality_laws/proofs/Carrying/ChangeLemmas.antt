@@ -1,10 +1,10 @@
 -- Changes and outcomes with other bytes: what is told of them is the same, and so is what a call is refused for.
 use Rattle.machine_model.specs.Runs.Isolation.{without_bytes}
+use Rattle.confidentiality_laws.proofs.Carrying.AlikeLemmas.{outcome_mapped}
 use Rattle.confidentiality_laws.proofs.Ledgers.OtherBytesLemmas.{machine_through, no_bytes}
-use Rattle.std.proofs.Common.{◌≡◌, ℕ, Bool, true, false, List, Option, Some, None, refl, ◌∙◌}
-use Rattle.xk_base.specs.declared.errors.XousError.{XousError}
+use Rattle.std.proofs.Common.{◌≡◌, ℕ, List, refl}
 use Rattle.ledger_model.specs.Ledger.{Ledger}
-use Rattle.machine_model.specs.State.Changes.{Call, Change, Outcome, Refused, Retried, Served, Told, call_settled, first_refusal, refused_or, settled, unless_refused, unless_retried}
+use Rattle.machine_model.specs.State.Changes.{Call, Change, Outcome, Refused, Retried, Served, Told, call_settled, settled}
 use Rattle.machine_model.specs.State.Machine.{Machine}
 use Rattle.machine_model.specs.State.Order.{turn, next_ready}
 
@@ -14,9 +14,7 @@ abbrev pub change_through : (List ℕ → List ℕ) → Change → Change
 change_through g change = record change { machine = machine_through g change.machine }
 
 abbrev pub outcome_through : (List ℕ → List ℕ) → Outcome → Outcome
-outcome_through g (Refused error) = Refused error
-outcome_through g Retried = Retried
-outcome_through g (Served change) = Served (change_through g change)
+outcome_through g outcome = outcome_mapped (machine_through g) outcome
 
 abbrev pub told_through : (List ℕ → List ℕ) → Told → Told
 told_through g told = record told { machine = machine_through g told.machine }
@@ -36,25 +34,6 @@ IsBlind served =
     → outcome_through no_bytes (served m w) ≡ outcome_through no_bytes (served n w)
 
 module _ (g : List ℕ → List ℕ) where
-  -- ---- refusals and retries
-
-  refused_through : (x : Option XousError) (outcome : Outcome)
-      → outcome_through g (refused_or x outcome) ≡ refused_or x (outcome_through g outcome)
-  refused_through None outcome = refl
-  refused_through (Some error) outcome = refl
-
-  -- the same refusals, and then what follows with other bytes
-  pub unless_through : (refusals others : List (Bool × XousError)) (outcome other : Outcome) → refusals ≡ others
-      → outcome_through g outcome ≡ other
-      → outcome_through g (unless_refused refusals outcome) ≡ unless_refused others other
-  unless_through refusals others outcome other same e =
-      refused_through (first_refusal refusals) outcome ∙ (λ i. unless_refused (same i) (e i))
-
-  pub retried_through : (test : Bool) (outcome : Outcome)
-      → outcome_through g (unless_retried test outcome) ≡ unless_retried test (outcome_through g outcome)
-  retried_through true outcome = refl
-  retried_through false outcome = refl
-
   -- ---- settled
 
   pub settled_through : (change : Change) → told_through g (settled change) ≡ settled (change_through g change)

@@ -1,16 +1,14 @@
--- Every effect of a call carries bytes as they are, where zeros stay zeros, and so does what a verdict means.
-use Rattle.std.proofs.Common.{◌≡◌, ℕ, true, false, List, [], ◌∷◌, None, refl, ap, ◌∙◌}
+-- Every effect of a call carries bytes as they are, where zeros stay zeros.
+use Rattle.std.proofs.Common.{◌≡◌, ℕ, true, false, List, refl, ap}
 use Rattle.xk_base.specs.declared.pages.LoanKind.TheVariants.{Shared, Exclusive}
 use Rattle.xk_base.specs.declared.messages.MsgKind.TheVariants.{LendMut, Lend, Move, Scalar, BlockingScalar}
 use Rattle.ledger_model.specs.Ledger.{Ledger}
 use Rattle.ledger_model.specs.Places.{in_run}
 use Rattle.ledger_model.specs.Steps.{zero_page}
-use Rattle.machine_model.specs.State.Changes.{Change, Served, unless_retried}
+use Rattle.machine_model.specs.State.Changes.{Change}
 use Rattle.machine_model.specs.State.Machine.{Machine}
 use Rattle.machine_model.specs.State.Order.{next_ready, turn}
-use Rattle.call_effects.specs.Effects.{Effect, Pages, HasHeap, Starts, Waits, Awaits, EndsTurn, Founds, Connects, TakesNumber, Serves, ClosesServers, Unqueues, Orphans, Forgets, Claims, Frees, PageStep, Maps, Removes, Reduces, Sends, Passes, Ends, apply, paged, run}
-use Rattle.call_effects.specs.Verdicts.{Does, RefusedIf, Refuses, RetriedIf, Verdict, meant}
-use Rattle.confidentiality_laws.proofs.Carrying.ChangeLemmas.{outcome_through, retried_through, unless_through}
+use Rattle.call_effects.specs.Effects.{Effect, Pages, HasHeap, Starts, Waits, Awaits, EndsTurn, Founds, Connects, TakesNumber, Serves, ClosesServers, Unqueues, Orphans, Forgets, Claims, Frees, PageStep, Maps, Removes, Reduces, Sends, Passes, Ends, apply, paged}
 use Rattle.confidentiality_laws.proofs.Carrying.EndLemmas.{closed_through, forgotten_through, held_through, queued_through}
 use Rattle.confidentiality_laws.proofs.Ledgers.OtherBytesLemmas.{machine_through, through}
 use Rattle.confidentiality_laws.proofs.Ledgers.ThroughStepLemmas.{end_loan_through, give_through, lend_through, make_console_through}
@@ -30,7 +28,7 @@ module _ (g : List ℕ → List ℕ) (zeros : g zero_page ≡ zero_page) where
   paged_through (Passes number from to) l = pass_through g number from to l
   paged_through (Ends number) l = end_loan_through g number l
 
-  effect_through : (effect : Effect) (m : Machine) → machine_through g (apply effect m) ≡ apply effect (machine_through g m)
+  pub effect_through : (effect : Effect) (m : Machine) → machine_through g (apply effect m) ≡ apply effect (machine_through g m)
   unfolding turn next_ready
   effect_through (Pages step) m = ap (λ l. record m { ledger = l }) (paged_through step m.ledger)
   effect_through (HasHeap n) m = refl
@@ -49,16 +47,3 @@ module _ (g : List ℕ → List ℕ) (zeros : g zero_page ≡ zero_page) where
   effect_through (Forgets pid) m = forgotten_through g pid m
   effect_through (Claims k claim) m = refl
   effect_through (Frees k) m = refl
-
-  run_through : (effects : List Effect) (m : Machine) → machine_through g (run effects m) ≡ run effects (machine_through g m)
-  run_through [] m = refl
-  run_through (effect ∷ effects) m = run_through effects (apply effect m) ∙ ap (run effects) (effect_through effect m)
-
-  pub meant_through : (m : Machine) (verdict : Verdict) → outcome_through g (meant m verdict) ≡ meant (machine_through g m) verdict
-  meant_through m (Refuses error) = refl
-  meant_through m (Does plan) =
-      ap (λ machine. Served (record { machine = machine; answers = plan.answers; delivery = None; gone = plan.gone })) (run_through plan.effects m)
-  meant_through m (RefusedIf refusals verdict) =
-      unless_through g refusals refusals (meant m verdict) (meant (machine_through g m) verdict) refl (meant_through m verdict)
-  meant_through m (RetriedIf test verdict) =
-      retried_through g test (meant m verdict) ∙ ap (unless_retried test) (meant_through m verdict)

@@ -1,7 +1,8 @@
--- The verdict on a call is the same where pages hold other bytes.
-use Rattle.std.proofs.Common.{◌≡◌, ℕ, Bool, true, List, [], ◌∷◌, ◌++◌, ◌*◌, Option, Some, None, is_none, refl, sym, ap, ◌∙◌}
-use Rattle.std.specs.Option.{option_and_then, option_map_or}
-use Rattle.std.specs.Prelude.{◌+◌, ◌-◌, ◌/◌, ◌==◌, ◌&&◌, ◌||◌, if◌then◌else◌, nat_lt, not, unwrap_or}
+-- The verdict on a call is the same in two machines of one view: where pages hold other bytes, threads have other registers, and the
+-- count of steps, the reservation, the timer or the pending interrupts differ.
+use Rattle.std.proofs.Common.{◌≡◌, ℕ, Bool, true, false, List, [], ◌∷◌, ◌++◌, ◌*◌, Option, Some, None, is_none, refl, sym, ap, ◌∙◌}
+use Rattle.std.specs.Option.{option_and_then, option_map, option_map_or}
+use Rattle.std.specs.Prelude.{◌+◌, ◌-◌, ◌/◌, ◌%◌, ◌==◌, ◌&&◌, ◌||◌, if◌then◌else◌, is_some, nat_le, nat_lt, not, unwrap_or}
 use Rattle.xk_base.specs.declared.errors.XousError.{XousError}
 use Rattle.xk_base.specs.declared.errors.XousError.TheVariants.{AccessDenied, BadAddress, BadAlignment, InvalidLimit, InvalidSyscall, MemoryInUse, OutOfMemory, ServerNotFound, ServerQueueFull, ShareViolation}
 use Rattle.xk_base.specs.declared.ids.Number.{Number}
@@ -38,16 +39,87 @@ use Rattle.call_effects.proofs.RowLemmas.{OfRows, ◌also◌, of_row}
 use Rattle.confidentiality_laws.proofs.Ledgers.BareTestLemmas.{any_free_alike, any_lacks_alike, any_not_sent_alike, any_on_loan_alike}
 use Rattle.confidentiality_laws.proofs.Ledgers.BareTestLemmas.{console_mapped_alike, least_run_alike, pages_alike, used_alike}
 use Rattle.confidentiality_laws.proofs.Ledgers.OtherBytesLemmas.{machine_through, through}
+use Rattle.call_effects.proofs.MeantLemmas.{calls_meant}
+use Rattle.call_effects.specs.Effects.{Awaits, ClosesServers, Passes, Returned, Sends, Serves, Starts, TakesNumber, arriving}
+use Rattle.call_effects.specs.Rows.MessageRows.{arrival_answers}
+use Rattle.call_effects.specs.Rows.ServerRows.{destroy_row}
+use Rattle.call_effects.specs.Rows.ThreadRows.{create_row, join_row}
+use Rattle.call_effects.specs.Verdicts.{answers_with, meant}
+use Rattle.confidentiality_laws.proofs.Ledgers.OtherBytesLemmas.{bare_is, bare_through, no_bytes}
+use Rattle.confidentiality_laws.specs.CallViews.{CallsDependOnTheirView, call_view, state_alone}
+use Rattle.machine_model.specs.Calling.ThreadCalls.{has_thread}
+use Rattle.machine_model.specs.Ending.Closing.{is_sender_at, refused_server}
+use Rattle.machine_model.specs.Messaging.ForwardCalls.{held_place, passed_from, passed_place, passed_to, with_first}
+use Rattle.machine_model.specs.Messaging.Messages.{new_message, new_number}
+use Rattle.machine_model.specs.Messaging.Receivers.{is_receiving, receiving_at}
+use Rattle.machine_model.specs.Messaging.SendCalls.{sender_answered, sent_place, sent_serial}
+use Rattle.machine_model.specs.State.Machine.{Joining, Thread, ThreadState}
+use Rattle.machine_model.specs.State.Threads.{answer_to, both_answers, new_thread, thread_id}
+use Rattle.syscall_codec.specs.CallWords.{join_tid, thread_arguments, thread_entry, thread_sp}
+use Rattle.syscall_codec.specs.ReplyWords.{thread_words}
+use Rattle.xk_base.specs.Calls.Kinds.{is_answered}
+use Rattle.xk_base.specs.Tables.Circle.{id_by_tid, thread_ids}
+use Rattle.xk_base.specs.Tables.Counting.{least_below}
+use Rattle.xk_base.specs.Tables.Sids.{serial_of}
+use Rattle.xk_base.specs.declared.errors.XousError.TheVariants.{InvalidThread, ThreadNotAvailable}
+use Rattle.xk_base.specs.declared.ids.Pid.{Pid}
+use Rattle.xk_base.specs.declared.ids.ThreadId.{ThreadId}
+use Rattle.xk_base.specs.declared.limits.TheConstants.{TID_LIMIT}
+use Rattle.xk_base.specs.declared.messages.MsgKind.TheVariants.{Scalar}
 
 -- the same refusals, and then what follows
 refused_alike : {refusals others : List (Bool × XousError)} {verdict : Verdict} → refusals ≡ others
     → RefusedIf refusals verdict ≡ RefusedIf others verdict
 refused_alike {verdict = verdict} same = ap (λ x. RefusedIf x verdict) same
 
+-- ---- threads without their registers
+
+-- what is asked of a thread's state is the same
+state_told : (f : ThreadState → Bool) (o : Option Thread) → option_map_or (λ t. f t.state) (option_map state_alone o) false ≡ option_map_or (λ t. f t.state) o false
+state_told f None = refl
+state_told f (Some t) = refl
+
+some_alone : (o : Option Thread) → is_some (option_map state_alone o) ≡ is_some o
+some_alone None = refl
+some_alone (Some t) = refl
+
+none_alone : (o : Option Thread) → is_none (option_map state_alone o) ≡ is_none o
+none_alone None = refl
+none_alone (Some t) = refl
+
+-- the view, with bytes that went through a function
+abbrev view : (List ℕ → List ℕ) → Machine → Machine
+view g m = record m {
+  ledger = through g m.ledger;
+  threads = λ id. option_map state_alone (m.threads id);
+  steps = 0;
+  reserved = None;
+  compare = None;
+  pending = λ k. false;
+}
+
+module _ (g : List ℕ → List ℕ) (m : Machine) where
+  receiving_view : (serial : Serial) (id : ThreadId) → receiving_at (view g m) serial id ≡ receiving_at m serial id
+  receiving_view serial id = state_told (is_receiving serial) (m.threads id)
+
+  receiver_view : (serial : Serial) → receiver (view g m) serial ≡ receiver m serial
+  unfolding receiver
+  receiver_view serial = λ i.
+      option_map (id_by_tid m.processes) (least_below (thread_ids m.processes) (λ k. receiving_view serial (id_by_tid m.processes k) i))
+
+  free_tid_view : (pid : Pid) → free_tid (view g m) pid ≡ free_tid m pid
+  unfolding free_tid
+  free_tid_view pid = λ i. least_below (TID_LIMIT + 1) (λ tid. nat_le 2 tid && none_alone (m.threads (thread_id pid tid)) i)
+
+  has_thread_view : (pid : Pid) (tid : ℕ) → has_thread (view g m) pid tid ≡ has_thread m pid tid
+  has_thread_view pid tid = λ i. nat_le 2 tid && nat_le tid TID_LIMIT && some_alone (m.threads (thread_id pid tid)) i
+
+-- ---- the rows
+
 module _ (g : List ℕ → List ℕ) where
-  -- the verdict of the row doesn't depend on bytes
+  -- the verdict of the row depends on the view alone
   abbrev IsAlike : Row → Type 0
-  IsAlike row = (m : Machine) (w : List ℕ) → row m w ≡ row (machine_through g m) w
+  IsAlike row = (m : Machine) (w : List ℕ) → row m w ≡ row (view g m) w
 
   -- ---- memory
 
@@ -90,7 +162,7 @@ module _ (g : List ℕ → List ℕ) where
       ∷ (any_on_loan_alike g m.processes m.ledger first (heap_bytes w / PAGE_SIZE) i, ShareViolation)
       ∷ []))
 
-  too_many_alike : (m : Machine) (n : ℕ) → are_too_many (machine_through g m) n ≡ are_too_many m n
+  too_many_alike : (m : Machine) (n : ℕ) → are_too_many (view g m) n ≡ are_too_many m n
   too_many_alike m n = ap (λ p. nat_lt m.capacity (p + n)) (pages_alike g m.processes m.ledger)
 
   increase_alike : IsAlike increase_row
@@ -125,12 +197,12 @@ module _ (g : List ℕ → List ℕ) where
       found : least_run m.processes (through g m.ledger) m.cursor.pid Map n ≡ least_run m.processes m.ledger m.cursor.pid Map n
       found = least_run_alike g m.processes m.ledger m.cursor.pid Map n
 
-      address : map_address (machine_through g m) (map_virt w) (map_size w) ≡ map_address m (map_virt w) (map_size w)
+      address : map_address (view g m) (map_virt w) (map_size w) ≡ map_address m (map_virt w) (map_size w)
       address = λ i. if map_virt w == 0 then PAGE_SIZE * (unwrap_or (found i) (record { 0 = 0 })).0 else map_virt w
 
   -- ---- messages
 
-  send_refusals_alike : (m : Machine) (w : List ℕ) → send_refusals m w ≡ send_refusals (machine_through g m) w
+  send_refusals_alike : (m : Machine) (w : List ℕ) → send_refusals m w ≡ send_refusals (view g m) w
   send_refusals_alike m w = sym (λ i.
       (is_none (server_at m (send_cid w)), ServerNotFound)
       ∷ (is_none (named_kind w), InvalidSyscall)
@@ -139,15 +211,29 @@ module _ (g : List ℕ → List ℕ) where
       ∷ (sends_pages w && any_not_sent_alike g m.processes m.ledger (caller_place m (send_address w)) (sent_pages w) (sends_lend_mut w) i, ShareViolation)
       ∷ [])
 
-  arrival_alike : (m : Machine) (w : List ℕ) → arrival m w ≡ arrival (machine_through g m) w
+  arrival_alike : (m : Machine) (w : List ℕ) → arrival m w ≡ arrival (view g m) w
   unfolding arrival
   arrival_alike m w =
       sym (λ i. option_and_then (λ server. least_run_alike g m.processes m.ledger server.pid MessageWindow (sent_pages w) i) (server_at m (send_cid w)))
 
+  sent_alike : (first : Vpn) → IsAlike (sent_row first)
+  sent_alike first m w = ap on (sym (receiver_view g m (sent_serial m w)))
+    where
+      on : Option ThreadId → Verdict
+      on who =
+          let kind = unwrap_or (named_kind w) Scalar in
+          let message = new_message m kind w first in
+          answers_with (both_answers (arrival_answers who message) (sender_answered (is_answered kind) m.cursor))
+          (Pages (Sends kind (caller_place m (send_address w)) (sent_pages w) (sent_place m w first) (new_number m))
+          ∷ TakesNumber
+          ∷ Awaits (is_answered kind) (new_number m)
+          ∷ Serves (sent_serial m w) (arriving who message)
+          ∷ [])
+
   sent_to_alike : IsAlike sent_to_row
-  unfolding receiver
   sent_to_alike m w =
       ap (λ first. RefusedIf (arrival_refusals w first) (sent_row (unwrap_or first (record { 0 = 0 })) m w)) (arrival_alike m w)
+      ∙ ap (RefusedIf (arrival_refusals w (arrival (view g m) w))) (sent_alike (unwrap_or (arrival (view g m) w) (record { 0 = 0 })) m w)
 
   send_alike : IsAlike send_row
   send_alike m w = λ i. RefusedIf (send_refusals_alike m w i) (RetriedIf (is_full_for m w) (sent_to_alike m w i))
@@ -155,7 +241,7 @@ module _ (g : List ℕ → List ℕ) where
   try_send_alike : IsAlike try_send_row
   try_send_alike m w = λ i. RefusedIf (send_refusals_alike m w i ++ (is_full_for m w, ServerQueueFull) ∷ []) (sent_to_alike m w i)
 
-  next_arrival_alike : (m : Machine) (number : Number) (cid : ℕ) → next_arrival m number cid ≡ next_arrival (machine_through g m) number cid
+  next_arrival_alike : (m : Machine) (number : Number) (cid : ℕ) → next_arrival m number cid ≡ next_arrival (view g m) number cid
   unfolding next_arrival holder_of
   next_arrival_alike m number cid =
       sym (λ i. option_and_then
@@ -163,10 +249,24 @@ module _ (g : List ℕ → List ℕ) where
       (server_at m cid))
 
   passed_alike : (m : Machine) (number : Number) (cid : ℕ) (first : Vpn) (o : Option Message)
-      → passed_if m number cid first o ≡ passed_if (machine_through g m) number cid first o
-  unfolding holder_of receiver
+      → passed_if m number cid first o ≡ passed_if (view g m) number cid first o
+  unfolding holder_of
   passed_alike m number cid first None = refl
-  passed_alike m number cid first (Some message) = refl
+  passed_alike m number cid first (Some message) = ap on (sym (receiver_view g m to))
+    where
+      from : Serial
+      from = unwrap_or (passed_from m number) (serial_of 0)
+
+      to : Serial
+      to = unwrap_or (passed_to m cid) (serial_of 0)
+
+      on : Option ThreadId → Verdict
+      on who =
+          answers_with (both_answers (arrival_answers who (with_first first message)) (answer_to m.cursor plain_words))
+          (Serves from (Returned message.number)
+          ∷ Pages (Passes message.number (held_place m message) (passed_place m cid first))
+          ∷ Serves to (arriving who (with_first first message))
+          ∷ [])
 
   forward_alike : IsAlike forward_row
   unfolding holder_of
@@ -181,14 +281,14 @@ module _ (g : List ℕ → List ℕ) where
       cid = forward_cid w
 
       passed : passed_if m number cid (unwrap_or (next_arrival m number cid) (record { 0 = 0 })) (passable m number)
-          ≡ passed_if (machine_through g m) number cid (unwrap_or (next_arrival (machine_through g m) number cid) (record { 0 = 0 }))
+          ≡ passed_if (view g m) number cid (unwrap_or (next_arrival (view g m) number cid) (record { 0 = 0 }))
           (passable m number)
       passed =
           ap (λ first. passed_if m number cid (unwrap_or first (record { 0 = 0 })) (passable m number)) (next_arrival_alike m number cid)
-          ∙ passed_alike m number cid (unwrap_or (next_arrival (machine_through g m) number cid) (record { 0 = 0 })) (passable m number)
+          ∙ passed_alike m number cid (unwrap_or (next_arrival (view g m) number cid) (record { 0 = 0 })) (passable m number)
 
   taken_alike : (m : Machine) (serial : Serial) (o : Option Message) (verdict : Verdict)
-      → taken_or m serial o verdict ≡ taken_or (machine_through g m) serial o verdict
+      → taken_or m serial o verdict ≡ taken_or (view g m) serial o verdict
   taken_alike m serial None verdict = refl
   taken_alike m serial (Some message) verdict = refl
 
@@ -206,11 +306,44 @@ module _ (g : List ℕ → List ℕ) where
       ap (RefusedIf (own_server_refusals m (named_sid w)))
       (taken_alike m serial (oldest_queued m serial) (answers_caller m plain_words []))
 
+  -- ---- threads and servers
+
+  create_alike : IsAlike create_row
+  create_alike m w = ap on (sym (free_tid_view g m m.cursor.pid))
+    where
+      on : Option ℕ → Verdict
+      on tid =
+          RefusedIf ((not (thread_entry w % 4 == 0), BadAlignment) ∷ (is_none tid, ThreadNotAvailable) ∷ [])
+          (answers_caller m (thread_words (unwrap_or tid 0))
+          (Starts (thread_id m.cursor.pid (unwrap_or tid 0)) (new_thread (thread_entry w) (thread_sp w) (thread_arguments w)) ∷ []))
+
+  join_alike : IsAlike join_row
+  join_alike m w =
+      ap (λ b. RefusedIf ((not b || join_tid w == m.cursor.tid.0, InvalidThread) ∷ [])
+      (answers_nobody (Waits m.cursor (Joining (record { 0 = join_tid w })) ∷ [])))
+      (sym (has_thread_view g m m.cursor.pid (join_tid w)))
+
+  destroy_alike : IsAlike destroy_row
+  unfolding any_server with_sid
+  destroy_alike m w = ap on (λ i id. sym (receiving_view g m serial id) i)
+    where
+      serial : Serial
+      serial = named_server m (named_sid w)
+
+      this : ℕ → Bool
+      this n = n == serial.0
+
+      on : (ThreadId → Bool) → Verdict
+      on test =
+          RefusedIf (own_server_refusals m (named_sid w))
+          (answers_with (both_answers (answer_to m.cursor plain_words) (both_answers (refused_server (is_sender_at this m)) (refused_server test)))
+          (ClosesServers this ∷ []))
+
 -- ---- the table
 
 module _ (g : List ℕ → List ℕ) where
   table_alike : OfRows (λ number. true) (λ number row. IsAlike g row) rows
-  unfolding any_server free_tid holder_of live_servers with_sid
+  unfolding any_server holder_of live_servers with_sid
   table_alike =
       map_alike g
       also (λ m w. refl)
@@ -223,7 +356,7 @@ module _ (g : List ℕ → List ℕ) where
       also receive_alike g
       also send_alike g
       also (λ m w. refl)
-      also (λ m w. refl)
+      also create_alike g
       also unmap_alike g
       also (λ m w. refl)
       also (λ m w. refl)
@@ -232,15 +365,32 @@ module _ (g : List ℕ → List ℕ) where
       also (λ m w. refl)
       also (λ m w. refl)
       also try_receive_alike g
-      also (λ m w. refl)
-      also (λ m w. refl)
+      also join_alike g
+      also destroy_alike g
       also (λ m w. refl)
       also (λ m w. refl)
       also forward_alike g
       also tt
 
-  pub decide_alike : (m : Machine) (w : List ℕ) → decide m w ≡ decide (machine_through g m) w
+  decide_viewed : (m : Machine) (w : List ℕ) → decide m w ≡ decide (view g m) w
   unfolding decide
-  decide_alike m w =
+  decide_viewed m w =
       ap (RefusedIf (any_refusals m w))
       (of_row (λ number. true) (λ number row. IsAlike g row) (call_number w) refl (λ m w. refl) rows table_alike m w)
+
+-- ---- machines of one view
+
+pub decide_view : (m : Machine) (w : List ℕ) → decide m w ≡ decide (call_view m) w
+decide_view m w = decide_viewed no_bytes m w ∙ ap (λ l. decide (record (view no_bytes m) { ledger = l }) w) (sym (bare_is m.ledger))
+
+pub decide_same_view : (m n : Machine) (w : List ℕ) → call_view m ≡ call_view n → decide m w ≡ decide n w
+decide_same_view m n w e = decide_view m w ∙ (ap (λ x. decide x w) e ∙ sym (decide_view n w))
+
+-- other bytes leave it
+pub view_through : (g : List ℕ → List ℕ) (m : Machine) → call_view m ≡ call_view (machine_through g m)
+view_through g m = ap (λ l. record (call_view m) { ledger = l }) (sym (bare_through g m.ledger))
+
+pub calls_depend : CallsDependOnTheirView
+calls_depend m n w e =
+    let same = decide_same_view m n w e in
+    record { verdict = same; one = calls_meant m w ∙ ap (meant m) same; other = calls_meant n w }

@@ -1,8 +1,8 @@
 -- Where the pages come from that others than a group can load after a call.
-use Rattle.std.proofs.Common.{◌≡◌, ℕ, ◌<◌, Bool, ◌&&◌, ◌||◌, true, false, List, [], ◌∷◌, ◌++◌, Option, Some, None, is_none, length, get_or, refl, sym, ap, ◌∙◌, subst}
-use Rattle.std.specs.Prelude.{◌+◌, ◌-◌, ◌/◌, ◌==◌, if◌then◌else◌, is_some, unwrap_or, find}
+use Rattle.std.proofs.Common.{◌≡◌, ℕ, Bool, ◌&&◌, ◌||◌, true, false, List, [], ◌∷◌, ◌++◌, Option, Some, None, is_none, get_or, refl, sym, ap, ◌∙◌, subst}
+use Rattle.std.specs.Prelude.{◌+◌, ◌-◌, ◌/◌, ◌==◌, if◌then◌else◌, is_some, unwrap_or}
 use Rattle.std.specs.Bool.{⊤}
-use Rattle.std.specs.Option.{option_and_then, option_map, option_map_or}
+use Rattle.std.specs.Option.{option_and_then, option_map_or}
 use Rattle.std.proofs.lemmas.Bool.{and_parts, eqb-true, false≢true, or_parts}
 use Rattle.std.proofs.lemmas.Option.{none-some}
 use Rattle.xk_base.specs.declared.errors.XousError.{XousError}
@@ -26,9 +26,7 @@ use Rattle.syscall_codec.specs.CallWords.{call_number, forward_cid, heap_bytes, 
 use Rattle.syscall_codec.specs.CallWords.{range_flags, range_size, return_address, return_size, send_address, send_cid}
 use Rattle.syscall_codec.specs.Flags.{right_of}
 use Rattle.xk_base.specs.Calls.Kinds.{is_answered}
-use Rattle.xk_base.specs.Tables.Counting.{least_below}
 use Rattle.xk_base.specs.Tables.Sids.{serial_of}
-use Rattle.xk_base.proofs.CountingLemmas.{least_below-passes}
 use Rattle.xk_base.specs.declared.limits.TheConstants.{CONSOLE_ADDRESS, PAGE_SIZE}
 use Rattle.xk_base.specs.declared.pages.Right.{Right}
 use Rattle.syscall_codec.specs.ReplyWords.{plain_words}
@@ -46,7 +44,7 @@ use Rattle.machine_model.specs.Ending.Ends.{death}
 use Rattle.machine_model.specs.Messaging.ForwardCalls.{forward_refusals, held_place, is_passable_of, next_arrival, next_arrival_refusals, passable, passed_number, passed_place}
 use Rattle.machine_model.specs.Messaging.Messages.{carries_pages, is_lend, is_lend_of, is_of_number, new_number}
 use Rattle.machine_model.specs.Messaging.ReceiveCalls.{oldest_queued}
-use Rattle.machine_model.specs.Messaging.ReturnCalls.{held_at, held_by_caller, holder_of, holds, named_number, return_memory_refusals}
+use Rattle.machine_model.specs.Messaging.ReturnCalls.{held_by_caller, named_number, return_memory_refusals}
 use Rattle.machine_model.specs.Messaging.SendCalls.{arrival, arrival_refusals, is_full_for, message_run, named_kind, send_refusals, sender_left, sends_lend_mut, sends_pages, sent_pages, sent_place}
 use Rattle.machine_model.specs.Runs.Matched.{IsMessageLent, Matched}
 use Rattle.machine_model.specs.State.Changes.{Outcome, first_refusal, refused_or, unless_refused, unless_retried}

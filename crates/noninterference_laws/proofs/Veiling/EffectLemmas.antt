@@ -1,5 +1,5 @@
 -- What a call makes of a machine is the same beside what is hidden where the threads of a group are hidden before it.
-use Rattle.std.proofs.Common.{◌≡◌, ℕ, Bool, true, false, List, [], ◌∷◌, Option, Some, None, refl, sym, ap, ◌∙◌}
+use Rattle.std.proofs.Common.{◌≡◌, ℕ, true, false, List, Option, Some, None, refl, sym, ap, ◌∙◌}
 use Rattle.std.specs.Prelude.{unwrap_or}
 use Rattle.std.specs.Option.{option_map}
 use Rattle.xk_base.specs.declared.errors.XousError.{XousError}
@@ -9,33 +9,26 @@ use Rattle.xk_base.specs.Tables.Counting.{put_at}
 use Rattle.machine_model.specs.Calling.Calls.{call}
 use Rattle.machine_model.specs.Ending.Closing.{any_server, closed, senders_held_gone, senders_queued_gone}
 use Rattle.machine_model.specs.Ending.Ends.{forgotten}
-use Rattle.machine_model.specs.State.Changes.{Change, Outcome, Refused, Retried, Served, Told, call_settled, first_refusal, refused_or, settled, unless_refused, unless_retried, with_refusal}
+use Rattle.machine_model.specs.State.Changes.{Change, Outcome, Refused, Retried, Served, Told, call_settled, settled, with_refusal}
 use Rattle.machine_model.specs.State.Machine.{Machine, Thread, Waiting}
 use Rattle.machine_model.specs.State.Order.{turn}
 use Rattle.machine_model.specs.State.Threads.{passed, with_state}
-use Rattle.call_effects.specs.Deciding.{decide}
-use Rattle.call_effects.specs.Effects.{Awaits, Claims, ClosesServers, Connects, Effect, EndsTurn, Forgets, Founds, Frees, HasHeap, Orphans, Pages, Serves, Starts, TakesNumber, Unqueues, Waits, apply, run}
-use Rattle.call_effects.specs.Verdicts.{Does, RefusedIf, Refuses, RetriedIf, Verdict, meant}
-use Rattle.call_effects.proofs.MeantLemmas.{calls_meant}
+use Rattle.call_effects.specs.Effects.{Awaits, Claims, ClosesServers, Connects, Effect, EndsTurn, Forgets, Founds, Frees, HasHeap, Orphans, Pages, Serves, Starts, TakesNumber, Unqueues, Waits, apply}
+use Rattle.confidentiality_laws.specs.CallViews.{call_view}
+use Rattle.confidentiality_laws.proofs.Carrying.AlikeLemmas.{BothRefused, BothRetried, BothServed, OutcomesAlike, call_alike, mapped_alike, outcome_mapped}
 use Rattle.noninterference_laws.specs.Inside.{Group, hidden_threads}
 use Rattle.noninterference_laws.proofs.Veiling.VeilLemmas.{again, answered_veil, changed_veil, forgotten_veil, next_ready_veil, put_veil}
 use Rattle.noninterference_laws.proofs.Veiling.VeilLemmas.{reserved_twice, veil}
-use Rattle.noninterference_laws.proofs.Veiling.VerdictLemmas.{decide_veil}
+use Rattle.noninterference_laws.proofs.Veiling.VerdictLemmas.{view_veil}
 
 abbrev pub change_veil : Group → Change → Change
 change_veil group change = record change { machine = veil group change.machine }
 
 abbrev pub outcome_veil : Group → Outcome → Outcome
-outcome_veil group (Refused error) = Refused error
-outcome_veil group Retried = Retried
-outcome_veil group (Served change) = Served (change_veil group change)
+outcome_veil group outcome = outcome_mapped (veil group) outcome
 
 abbrev pub told_veil : Group → Told → Told
 told_veil group told = record told { machine = veil group told.machine }
-
-same_change : (group : Group) (change other : Change) → outcome_veil group (Served change) ≡ outcome_veil group (Served other)
-    → change_veil group change ≡ change_veil group other
-same_change group change other e = cc
 
 module _ (group : Group) where
   -- ---- effects
@@ -78,40 +71,24 @@ module _ (group : Group) where
   effect_veil (Claims k claim) m = again group (apply (Claims k claim) m)
   effect_veil (Frees k) m = again group (apply (Frees k) m)
 
-  run_veil : (effects : List Effect) (m : Machine) → veil group (run effects m) ≡ veil group (run effects (veil group m))
-  run_veil [] m = again group m
-  run_veil (effect ∷ effects) m =
-      run_veil effects (apply effect m)
-      ∙ (ap (λ x. veil group (run effects x)) (effect_veil effect m) ∙ sym (run_veil effects (apply effect (veil group m))))
+  -- ---- calls
 
-  -- ---- verdicts and calls
+  -- machines are alike that are the same once the group is hidden
+  abbrev Alike : Machine → Machine → Type 0
+  Alike m n = veil group m ≡ veil group n
 
-  unless_veil : (refusals : List (Bool × XousError)) (x y : Outcome) → outcome_veil group x ≡ outcome_veil group y
-      → outcome_veil group (unless_refused refusals x) ≡ outcome_veil group (unless_refused refusals y)
-  unless_veil refusals x y e = go (first_refusal refusals)
-    where
-      go : (o : Option XousError) → outcome_veil group (refused_or o x) ≡ outcome_veil group (refused_or o y)
-      go None = e
-      go (Some error) = refl
+  effect_alike : (effect : Effect) (m n : Machine) → Alike m n → Alike (apply effect m) (apply effect n)
+  effect_alike effect m n e =
+      effect_veil effect m ∙ (ap (λ x. veil group (apply effect x)) e ∙ sym (effect_veil effect n))
 
-  retried_veil : (b : Bool) (x y : Outcome) → outcome_veil group x ≡ outcome_veil group y
-      → outcome_veil group (unless_retried b x) ≡ outcome_veil group (unless_retried b y)
-  retried_veil true x y e = refl
-  retried_veil false x y e = e
+  view_alike : (m n : Machine) → Alike m n → call_view m ≡ call_view n
+  view_alike m n e = view_veil group m ∙ (ap call_view e ∙ sym (view_veil group n))
 
-  meant_veil : (m : Machine) (verdict : Verdict) → outcome_veil group (meant m verdict) ≡ outcome_veil group (meant (veil group m) verdict)
-  meant_veil m (Refuses error) = refl
-  meant_veil m (Does plan) =
-      ap (λ machine. Served (record { machine = machine; answers = plan.answers; delivery = None; gone = plan.gone })) (run_veil plan.effects m)
-  meant_veil m (RefusedIf refusals verdict) =
-      unless_veil refusals (meant m verdict) (meant (veil group m) verdict) (meant_veil m verdict)
-  meant_veil m (RetriedIf test verdict) = retried_veil test (meant m verdict) (meant (veil group m) verdict) (meant_veil m verdict)
+  veiled_alike : (m : Machine) (w : List ℕ) → OutcomesAlike Alike (call m w) (call (veil group m) w)
+  veiled_alike m w = call_alike Alike effect_alike view_alike m (veil group m) w (again group m)
 
   pub call_veil : (m : Machine) (w : List ℕ) → outcome_veil group (call m w) ≡ outcome_veil group (call (veil group m) w)
-  call_veil m w =
-      ap (outcome_veil group) (calls_meant m w)
-      ∙ (meant_veil m (decide m w)
-      ∙ ap (outcome_veil group) (ap (meant (veil group m)) (decide_veil group m w) ∙ sym (calls_meant (veil group m) w)))
+  call_veil m w = mapped_alike (veil group) (call m w) (call (veil group m) w) (veiled_alike m w)
 
   -- ---- settled
 
@@ -158,21 +135,17 @@ module _ (group : Group) where
     };
   }
 
-  outcome_settled : (m : Machine) (x y : Outcome) → outcome_veil group x ≡ outcome_veil group y
+  outcome_settled : (m : Machine) (x y : Outcome) → OutcomesAlike Alike x y
       → told_veil group (call_settled m x) ≡ told_veil group (call_settled (veil group m) y)
   unfolding call_settled
-  outcome_settled m (Refused error) (Refused other) e =
-      refused_veil m error ∙ ap (λ x. told_veil group (call_settled (veil group m) x)) (e)
-  outcome_settled m Retried Retried e = λ i. record { machine = turn_veil m i; told = (call_settled m Retried).told }
-  outcome_settled m (Served change) (Served other) e = served_alike m (veil group m) change other refl (same_change group change other e)
-  outcome_settled m (Refused error) Retried e = absurd (cc)
-  outcome_settled m (Refused error) (Served other) e = absurd (cc)
-  outcome_settled m Retried (Refused other) e = absurd (cc)
-  outcome_settled m Retried (Served other) e = absurd (cc)
-  outcome_settled m (Served change) (Refused other) e = absurd (cc)
-  outcome_settled m (Served change) Retried e = absurd (cc)
+  outcome_settled m _ _ (BothRefused error) = refused_veil m error
+  outcome_settled m _ _ BothRetried = λ i. record { machine = turn_veil m i; told = (call_settled m Retried).told }
+  outcome_settled m _ _ (BothServed a b answers gone e) =
+      served_alike m (veil group m) (record { machine = a; answers = answers; delivery = None; gone = gone })
+      (record { machine = b; answers = answers; delivery = None; gone = gone }) refl
+      (ap (λ x. record { machine = x; answers = answers; delivery = None; gone = gone }) e)
 
   -- a call that is made and settled
   pub called_veil : (m : Machine) (w : List ℕ)
       → told_veil group (call_settled m (call m w)) ≡ told_veil group (call_settled (veil group m) (call (veil group m) w))
-  called_veil m w = outcome_settled m (call m w) (call (veil group m) w) (call_veil m w)
+  called_veil m w = outcome_settled m (call m w) (call (veil group m) w) (veiled_alike m w)

@@ -1,19 +1,16 @@
 -- A machine with the threads of a group hidden: what is asked of threads beside their registers and pcs is the same.
-use Rattle.std.proofs.Common.{◌≡◌, ℕ, ◌+◌, Bool, ◌&&◌, true, false, List, Option, Some, None, is_none, refl, sym, ap, ◌∙◌}
+use Rattle.std.proofs.Common.{◌≡◌, ℕ, ◌+◌, Bool, ◌&&◌, true, false, List, Option, Some, None, refl, sym, ap, ◌∙◌}
 use Rattle.std.specs.Prelude.{◌==◌, if◌then◌else◌, is_some, nat_le}
 use Rattle.std.specs.Option.{option_map, option_map_or}
 use Rattle.std.proofs.lemmas.Bool.{and_parts, eqb-true}
 use Rattle.xk_base.specs.declared.ids.Pid.{Pid}
-use Rattle.xk_base.specs.declared.ids.Serial.{Serial}
 use Rattle.xk_base.specs.declared.ids.ThreadId.{ThreadId}
 use Rattle.xk_base.specs.declared.limits.TheConstants.{TID_LIMIT}
 use Rattle.xk_base.proofs.CircleLemmas.{same_ids}
 use Rattle.syscall_codec.specs.ReplyWords.{scalar1_words}
-use Rattle.xk_base.specs.Tables.Circle.{id_by_tid, next_id, same_thread, thread_ids}
+use Rattle.xk_base.specs.Tables.Circle.{next_id, same_thread}
 use Rattle.xk_base.specs.Tables.Counting.{least_below, put_at}
-use Rattle.machine_model.specs.Calling.ThreadCalls.{free_tid, has_thread}
 use Rattle.machine_model.specs.Ending.Ends.{has_threads, joiners_answered, waits_for_end}
-use Rattle.machine_model.specs.Messaging.Receivers.{is_receiving, receiver, receiving_at}
 use Rattle.machine_model.specs.State.Machine.{Machine, Reservation, Thread, ThreadState}
 use Rattle.machine_model.specs.State.Order.{actor, is_ready, next_ready, ready_at}
 use Rattle.machine_model.specs.State.Threads.{Answers, thread_id, with_answer}
@@ -42,11 +39,6 @@ some_hidden : (b : Bool) (o : Option Thread) → is_some (hidden_if b o) ≡ is_
 some_hidden true None = refl
 some_hidden true (Some t) = refl
 some_hidden false o = refl
-
-none_hidden : (b : Bool) (o : Option Thread) → is_none (hidden_if b o) ≡ is_none o
-none_hidden true None = refl
-none_hidden true (Some t) = refl
-none_hidden false o = refl
 
 -- a change that makes the same state of a hidden thread
 abbrev pub Hides : (Thread → Thread) → Type 0
@@ -100,23 +92,6 @@ module _ (group : Group) where
   pub actor_veil : (m : Machine) → actor (veil group m) ≡ actor m
   unfolding actor
   actor_veil m = λ i. if ready_veil m m.cursor i then Some m.cursor else next_ready_veil m m.cursor i
-
-  pub receiving_veil : (m : Machine) (serial : Serial) (id : ThreadId) → receiving_at (veil group m) serial id ≡ receiving_at m serial id
-  receiving_veil m serial id = state_told (is_receiving serial) (group id.pid.0) (m.threads id)
-
-  pub receiver_veil : (m : Machine) (serial : Serial) → receiver (veil group m) serial ≡ receiver m serial
-  unfolding receiver
-  receiver_veil m serial = λ i.
-      option_map (id_by_tid m.processes) (least_below (thread_ids m.processes) (λ k. receiving_veil m serial (id_by_tid m.processes k) i))
-
-  pub free_tid_veil : (m : Machine) (pid : Pid) → free_tid (veil group m) pid ≡ free_tid m pid
-  unfolding free_tid
-  free_tid_veil m pid = λ i.
-      least_below (TID_LIMIT + 1) (λ tid. nat_le 2 tid && none_hidden (group pid.0) (m.threads (thread_id pid tid)) i)
-
-  pub has_thread_veil : (m : Machine) (pid : Pid) (tid : ℕ) → has_thread (veil group m) pid tid ≡ has_thread m pid tid
-  has_thread_veil m pid tid = λ i.
-      nat_le 2 tid && nat_le tid TID_LIMIT && some_hidden (group pid.0) (m.threads (thread_id pid tid)) i
 
   pub free_for_veil : (m : Machine) (pid : Pid) → is_free_for_interrupt (veil group m) pid ≡ is_free_for_interrupt m pid
   free_for_veil m pid = state_told is_idle (group pid.0) (m.threads (thread_id pid 1))

@@ -1,7 +1,7 @@
 -- What each cause makes of the next message number.
-use Rattle.std.proofs.Common.{◌≡◌, ℕ, ◌+◌, ◌⊎◌, inl, inr, Bool, true, false, List, [], Option, Some, None, refl, sym, ap, ◌∙◌, subst}
+use Rattle.std.proofs.Common.{◌≡◌, ℕ, ◌+◌, ◌⊎◌, inl, inr, Bool, true, false, List, Some, None, refl, sym, ap, ◌∙◌, subst}
 use Rattle.std.proofs.lemmas.Bool.{false≢true, eqb-true}
-use Rattle.std.specs.Prelude.{◌==◌, ◌||◌, if◌then◌else◌}
+use Rattle.std.specs.Prelude.{◌==◌, ◌||◌}
 use Rattle.xk_base.specs.declared.ids.Number.{Number}
 use Rattle.xk_base.specs.declared.ids.Pid.{Pid}
 use Rattle.xk_base.specs.declared.ids.ThreadId.{ThreadId}
@@ -10,32 +10,38 @@ use Rattle.xk_base.specs.Calls.Registers.{arguments_of, reg_at}
 use Rattle.syscall_codec.specs.CallNumbers.{send_message, try_send_message}
 use Rattle.machine_model.specs.Calling.Calls.{call}
 use Rattle.machine_model.specs.Ending.Closing.{closed, senders_held_gone, senders_queued_gone, servers_closed}
-use Rattle.machine_model.specs.Ending.Ends.{death, end_with_last_thread, forgotten, handler_ended, has_threads, thread_ended}
+use Rattle.machine_model.specs.Ending.Ends.{death, forgotten, handler_ended, thread_ended}
 use Rattle.machine_model.specs.Hart.Instructions.{CallsKernel, Executed, Next, Stores, StoresToConsole, StoresToTimer, Traps}
 use Rattle.machine_model.specs.Messaging.Messages.{new_number}
 use Rattle.machine_model.specs.Runs.LoanSpan.{is_send}
-use Rattle.machine_model.specs.Runs.Moments.{ByIrq, ByKill, ByPick, ByStep, ByTurn, Cause, caused, moment_of}
+use Rattle.machine_model.specs.Runs.Moments.{ByStep, Cause, caused, moment_of}
 use Rattle.machine_model.specs.State.Changes.{Change, Outcome, Refused, Retried, Served, call_settled, settled}
-use Rattle.machine_model.specs.State.Machine.{Claim, Machine, Thread, Idle}
+use Rattle.machine_model.specs.State.Machine.{Machine, Thread, Idle}
 use Rattle.machine_model.specs.State.Order.{actor, turn}
 use Rattle.machine_model.specs.State.Threads.{put_thread, change_thread, thread_id, with_state}
 use Rattle.machine_model.specs.State.Views.{stored, timer_set}
 use Rattle.machine_model.specs.Stepping.Acts.{call_by, is_call_served, is_served, is_call as calls_kernel}
-use Rattle.machine_model.specs.Stepping.Events.{killed, killed_if, picked, raised, raised_if}
-use Rattle.machine_model.specs.Stepping.Interrupts.{pended, delivered, delivered_lowest, handler_started, is_free_for_interrupt, lowest_pending}
+use Rattle.machine_model.specs.Stepping.Interrupts.{pended, delivered}
 use Rattle.machine_model.specs.Stepping.Reservations.{unreserved}
-use Rattle.machine_model.specs.Stepping.Step.{acted, executed, ends_handler, performed, step}
+use Rattle.machine_model.specs.Stepping.Step.{acted, executed, step}
 use Rattle.machine_model.specs.Messaging.SendCalls.{sender_left}
 use Rattle.machine_model.proofs.Runs.TimerLemmas.{pended_raised}
-use Rattle.machine_model.proofs.StepLemmas.{no_step}
-use Rattle.machine_laws.proofs.Stepping.StepKindLemmas.{Executes, HandlerEnds, StepKind, ThreadEnds, acted_as_executed, is_call, kind_of}
-use Rattle.machine_laws.proofs.Threading.ThreadStepLemmas.{then_acted, turned_to}
+use Rattle.machine_laws.proofs.Stepping.StepKindLemmas.{is_call}
+use Rattle.machine_laws.proofs.Threading.ThreadStepLemmas.{turned_to}
 use Rattle.call_effects.specs.Footprints.{NumberPart, footprint, names, Part}
 use Rattle.call_effects.proofs.PartLemmas.{OfChanging, of_parts}
 use Rattle.call_effects.proofs.RowLemmas.{◌also◌}
 use Rattle.call_effects.proofs.ServedLemmas.{OfServed}
-use Rattle.loan_laws.proofs.Fates.LikeLemmas.{call_like, like_raised, served_like, settled_like, step_like}
+use Rattle.loan_laws.proofs.Fates.LikeLemmas.{call_like, like_raised, served_like, settled_like}
+use Rattle.confidentiality_laws.proofs.CauseCaseLemmas.{ActCase, CauseCase, EndCase, EndsHandler, EndsThread, Instructs, IsLast, Kills, LeavesOthers, Raises, Rests, StartCase, Starts}
+use Rattle.confidentiality_laws.proofs.CauseCaseLemmas.{StartsNone, Steps, case_of, end_of, start_of}
 use Rattle.transcript_laws.specs.Accepting.{Accepts, GivesNumbers}
+use Rattle.call_effects.proofs.ServedLemmas.{done}
+use Rattle.confidentiality_laws.specs.TwoRuns.{records_by}
+use Rattle.machine_model.proofs.Runs.TimerLemmas.{timed_raised}
+use Rattle.machine_model.specs.State.Changes.{Told}
+use Rattle.machine_model.specs.Stepping.Step.{Recorded, counted}
+use Rattle.machine_model.specs.Stepping.Timer.{timed}
 
 -- ---- calls
 
@@ -89,24 +95,18 @@ settled_death_number : (m : Machine) (pid : Pid) → (settled (death pid m)).mac
 settled_death_number m pid = (settled_like (death pid m)).number ∙ death_number m pid
 
 thread_end_number : (m : Machine) (who : ThreadId) (a0 : ℕ) → (settled (thread_ended who a0 m)).machine.next_number ≡ m.next_number
-unfolding thread_ended
-thread_end_number m who a0 = (settled_like (thread_ended who a0 m)).number ∙ go (has_threads (put_thread who None m) who.pid)
+thread_end_number m who a0 = (settled_like (thread_ended who a0 m)).number ∙ go (thread_ended who a0 m) (end_of who a0 m)
   where
-    go : (b : Bool) → (end_with_last_thread b who.pid (put_thread who None m)).machine.next_number ≡ m.next_number
-    go true = refl
-    go false = death_number (put_thread who None m) who.pid
+    go : (change : Change) → EndCase who a0 m change → change.machine.next_number ≡ m.next_number
+    go _ LeavesOthers = refl
+    go _ IsLast = death_number (put_thread who None m) who.pid
 
 delivered_number : (m : Machine) (pid : Pid) → (delivered pid m).machine.next_number ≡ m.next_number
-unfolding delivered
-delivered_number m pid = lowest (if is_free_for_interrupt m pid then lowest_pending m pid else None)
+delivered_number m pid = go (delivered pid m) (start_of pid m)
   where
-    started : (k : ℕ) (o : Option Claim) → (handler_started m pid k o).machine.next_number ≡ m.next_number
-    started k None = refl
-    started k (Some claim) = refl
-
-    lowest : (o : Option ℕ) → (delivered_lowest m pid o).machine.next_number ≡ m.next_number
-    lowest None = refl
-    lowest (Some k) = started k (m.claims k)
+    go : (change : Change) → StartCase pid m change → change.machine.next_number ≡ m.next_number
+    go _ StartsNone = refl
+    go _ (Starts k claim e) = refl
 
 handler_end_number : (m : Machine) (pid : Pid) → (settled (handler_ended pid m)).machine.next_number ≡ m.next_number
 unfolding handler_ended
@@ -114,14 +114,8 @@ handler_end_number m pid =
     (settled_like (delivered pid (change_thread (thread_id pid 1) (with_state Idle) m))).number
     ∙ delivered_number (change_thread (thread_id pid 1) (with_state Idle) m) pid
 
-raised_number : (k : ℕ) (m : Machine) (o : Option Claim) → (raised_if k o (unreserved m)).machine.next_number ≡ m.next_number
-raised_number k m None = refl
-raised_number k m (Some claim) =
-    (like_raised (unreserved m) (settled (pended k claim (unreserved m))).machine (pended_raised k claim (unreserved m))).number
-
-killed_number : (b : Bool) (pid : Pid) (m : Machine) → (killed_if b pid (unreserved m)).machine.next_number ≡ m.next_number
-killed_number false pid m = refl
-killed_number true pid m = settled_death_number (unreserved m) pid
+timed_number : (done : Told) → (timed done).machine.next_number ≡ done.machine.next_number
+timed_number done = ap (λ (x : Machine). x.next_number) (timed_raised done).is
 
 -- ---- a step
 
@@ -184,13 +178,17 @@ module _ (m : Machine) (who : ThreadId) (acts : actor m ≡ Some who) where
   executed_number t CallsKernel i = absurd (false≢true (sym i))
   executed_number t (Traps cause value) i = settled_death_number n who.pid
 
-  step_to : (t : Thread) → m.threads who ≡ Some t → (acted n t).machine.next_number ≡ m.next_number → (step m).machine.next_number ≡ m.next_number
-  step_to t there e = (step_like m who t acts there).number ∙ e
+  abbrev Gives : ℕ → Type 0
+  Gives number = (number ≡ m.next_number) ⊎ Accepts (new_number m) m (moment_of ByStep m)
 
-  pub kind_kept : StepKind m who → ((step m).machine.next_number ≡ m.next_number) ⊎ Accepts (new_number m) m (moment_of ByStep m)
-  kind_kept (Executes t x there e) = go (calls_kernel x) refl
+  -- the number that a step leaves is that of what the thread does
+  act_kept : (t : Thread) → m.threads who ≡ Some t → (done : Told) → ActCase m who t done → (step m).machine.next_number ≡ done.machine.next_number
+      → Gives (step m).machine.next_number
+  act_kept t there _ (EndsThread ends) is = inl (is ∙ thread_end_number n who (reg_at t.regs 10))
+  act_kept t there _ (EndsHandler ends) is = inl (is ∙ handler_end_number n who.pid)
+  act_kept t there _ (Instructs x e) is = go (calls_kernel x) refl
     where
-      calls : (y : Executed) → calls_kernel y ≡ true → x ≡ y → ((step m).machine.next_number ≡ m.next_number) ⊎ Accepts (new_number m) m (moment_of ByStep m)
+      calls : (y : Executed) → calls_kernel y ≡ true → x ≡ y → Gives (step m).machine.next_number
       calls (Next regs pc) i same = absurd (false≢true i)
       calls (Stores address width value regs pc) i same = absurd (false≢true i)
       calls (StoresToConsole offset value regs pc) i same = absurd (false≢true i)
@@ -198,34 +196,24 @@ module _ (m : Machine) (who : ThreadId) (acts : actor m ≡ Some who) where
       calls CallsKernel i same = call_kept (arguments_of t.regs) (is_call m who t there (e ∙ ap Some same))
       calls (Traps cause value) i same = absurd (false≢true i)
 
-      go : (b : Bool) → calls_kernel x ≡ b → ((step m).machine.next_number ≡ m.next_number) ⊎ Accepts (new_number m) m (moment_of ByStep m)
+      go : (b : Bool) → calls_kernel x ≡ b → Gives (step m).machine.next_number
       go true i = calls x i refl
-      go false i = inl (step_to t there (ap (λ told. told.machine.next_number) (acted_as_executed m who t x e) ∙ executed_number t x i))
-  kind_kept (ThreadEnds t there ends) =
-      inl (step_to t there
-      (ap (λ b. (then_acted m who [] t b (ends_handler who t.pc) (performed n who t).executed).machine.next_number) ends
-      ∙ thread_end_number n who (reg_at t.regs 10)))
-  kind_kept (HandlerEnds t there low ends) =
-      inl (step_to t there
-      (ap (λ b. (then_acted m who [] t b (ends_handler who t.pc) (performed n who t).executed).machine.next_number) low
-      ∙ (ap (λ b. (then_acted m who [] t false b (performed n who t).executed).machine.next_number) ends ∙ handler_end_number n who.pid)))
-
-step_kept : (m : Machine) → ((step m).machine.next_number ≡ m.next_number) ⊎ Accepts (new_number m) m (moment_of ByStep m)
-step_kept m = go (actor m) refl
-  where
-    go : (o : Option ThreadId) → actor m ≡ o → ((step m).machine.next_number ≡ m.next_number) ⊎ Accepts (new_number m) m (moment_of ByStep m)
-    go None e = inl (ap (λ stepped. stepped.machine.next_number) (no_step m e))
-    go (Some who) e = kind_kept m who e (kind_of m who e)
+      go false i = inl (is ∙ executed_number t x i)
 
 -- ---- any cause
 
 cause_kept : (cause : Cause) (m : Machine) → ((caused cause m).next_number ≡ m.next_number) ⊎ Accepts (new_number m) m (moment_of cause m)
-unfolding picked raised killed turn
-cause_kept ByStep m = step_kept m
-cause_kept (ByPick who) m = inl refl
-cause_kept (ByIrq k) m = inl (raised_number k m (m.claims k))
-cause_kept (ByKill pid) m = inl (killed_number (m.process pid.0).alive pid m)
-cause_kept ByTurn m = inl refl
+cause_kept cause m = by cause (record { machine = caused cause m; records = records_by cause m }) (case_of cause m) refl
+  where
+    by : (cause : Cause) (next : Recorded) → CauseCase m cause next → (caused cause m).next_number ≡ next.machine.next_number
+        → ((caused cause m).next_number ≡ m.next_number) ⊎ Accepts (new_number m) m (moment_of cause m)
+    by _ _ (Rests cause cursor reserved) is = inl is
+    by _ _ (Steps who t acts there case) is =
+        let done = acted (turned_to who m) t in
+        act_kept m who acts t there done case (is ∙ timed_number (counted (turned_to who m) (Some t) done))
+    by _ _ (Raises k claim e) is =
+        inl (is ∙ (like_raised (unreserved m) (settled (pended k claim (unreserved m))).machine (pended_raised k claim (unreserved m))).number)
+    by _ _ (Kills pid e) is = inl (is ∙ settled_death_number (unreserved m) pid)
 
 pub cause_gives : (cause : Cause) (m : Machine) → GivesNumbers m (moment_of cause m)
 cause_gives cause m = record {

@@ -21,29 +21,32 @@ use Rattle.machine_model.specs.Ending.Closing.{any_server, closed, is_sender_at,
 use Rattle.machine_model.specs.Ending.Ends.{death, end_with_last_thread, handler_ended, has_threads, is_joining, joiners_answered, thread_ended, waits_for_end}
 use Rattle.machine_model.specs.Hart.Instructions.{CallsKernel, Executed, Next, Stores, StoresToConsole, StoresToTimer, Traps}
 use Rattle.machine_model.specs.Runs.Matched.{Matched}
-use Rattle.machine_model.specs.Runs.Moments.{Cause, ByStep, ByPick, ByIrq, ByKill, ByTurn}
+use Rattle.machine_model.specs.Runs.Moments.{Cause, ByStep, ByIrq, ByKill}
 use Rattle.machine_model.specs.State.Changes.{Change, Delivery, Outcome, Refused, Retried, Served, Told, call_settled, death_told, delivery_told, replies, settled}
-use Rattle.machine_model.specs.State.Machine.{Claim, Idle, Joining, Machine, Ready, Receiving, Thread, ThreadState, Waiting}
+use Rattle.machine_model.specs.State.Machine.{Idle, Joining, Machine, Ready, Receiving, Thread, ThreadState, Waiting}
 use Rattle.machine_model.specs.State.Order.{actor}
 use Rattle.machine_model.specs.State.Servers.{is_server_of}
 use Rattle.machine_model.specs.State.Threads.{Answers, change_thread, passed, put_thread, thread_id, with_state}
 use Rattle.machine_model.specs.Stepping.Acts.{executes}
-use Rattle.machine_model.specs.Stepping.Events.{killed, killed_if, picked, raised, raised_if}
-use Rattle.machine_model.specs.Stepping.Interrupts.{delivered, delivered_lowest, handler_started, is_free_for_interrupt, lowest_pending, pended}
+use Rattle.machine_model.specs.Stepping.Interrupts.{delivered, pended}
 use Rattle.machine_model.specs.Stepping.Reservations.{unreserved}
-use Rattle.machine_model.specs.Stepping.Step.{Recorded, acted, acted_if_there, after, console_told, counted, ends_handler, executed, performed, record_of, step, step_by, step_by_if}
+use Rattle.machine_model.specs.Stepping.Step.{Recorded, acted, after, console_told, counted, executed, record_of}
 use Rattle.machine_model.specs.Stepping.Timer.{is_due, timed, timed_if, timer_change, with_irq_if}
 use Rattle.machine_model.proofs.Runs.KeptLemmas.{matched_at}
-use Rattle.machine_model.proofs.StepLemmas.{no_step}
-use Rattle.machine_laws.proofs.Stepping.StepKindLemmas.{Executes, HandlerEnds, StepKind, ThreadEnds, acted_as_executed, is_call, kind_of}
+use Rattle.machine_laws.proofs.Stepping.StepKindLemmas.{is_call}
 use Rattle.machine_laws.proofs.Threading.ThreadMoveLemmas.{matched_reserved}
 use Rattle.machine_laws.proofs.Threading.ThreadPutLemmas.{alike}
-use Rattle.machine_laws.proofs.Threading.ThreadStepLemmas.{actor_ready, then_acted, turned_to}
+use Rattle.machine_laws.proofs.Threading.ThreadStepLemmas.{actor_ready, turned_to}
+use Rattle.confidentiality_laws.proofs.CauseCaseLemmas.{ActCase, CauseCase, EndsHandler, EndsThread, Instructs, Kills, Raises, Rests, StartCase, Starts, StartsNone}
+use Rattle.confidentiality_laws.proofs.CauseCaseLemmas.{Steps, case_of, start_of}
 use Rattle.transcript_laws.specs.Answering.{AnswersWhoWaits, IsCaller, IsReplyDue, RepliesAreDue, awaits_reply, is_waiting}
 use Rattle.transcript_laws.proofs.Answering.CallFitLemmas.{by_either}
 use Rattle.transcript_laws.proofs.Answering.CallTableLemmas.{calls_answer_who_waits}
 use Rattle.transcript_laws.proofs.Answering.FitLemmas.{sender_at_waits}
 use Rattle.transcript_laws.proofs.Ordering.ChangeLemmas.{all_with_irq}
+use Rattle.call_effects.proofs.ServedLemmas.{done}
+use Rattle.confidentiality_laws.specs.TwoRuns.{records_by}
+use Rattle.machine_model.specs.Runs.Moments.{caused}
 
 -- ---- what a change tells
 
@@ -145,16 +148,11 @@ thread_end_waits m h who a0 id e =
 -- ---- a delivery answers nobody
 
 delivered_answers : (m : Machine) (pid : Pid) (id : ThreadId) → is_some ((delivered pid m).answers id) ≡ false
-unfolding delivered
-delivered_answers m pid id = lowest (if is_free_for_interrupt m pid then lowest_pending m pid else None)
+delivered_answers m pid id = go (delivered pid m) (start_of pid m)
   where
-    started : (k : ℕ) (claim : Option Claim) → is_some ((handler_started m pid k claim).answers id) ≡ false
-    started k None = refl
-    started k (Some claim) = refl
-
-    lowest : (o : Option ℕ) → is_some ((delivered_lowest m pid o).answers id) ≡ false
-    lowest None = refl
-    lowest (Some k) = started k (m.claims k)
+    go : (change : Change) → StartCase pid m change → is_some (change.answers id) ≡ false
+    go _ StartsNone = refl
+    go _ (Starts k claim e) = refl
 
 -- ---- a step
 
@@ -228,37 +226,11 @@ module _ (m : Machine) (h : Matched m) (who : ThreadId) (acts : actor m ≡ Some
       then_holds (End who) tt (delivered who.pid (change_thread (thread_id who.pid 1) (with_state Idle) n))
       (λ id some. absurd (false≢true (sym (delivered_answers (change_thread (thread_id who.pid 1) (with_state Idle) n) who.pid id) ∙ some)))
 
-  -- by thread and by what it does
-  acted_holds : StepKind m who → (t : Thread) × (m.threads who ≡ Some t) × All P (acted n t).told
-  acted_holds (Executes t x there e) =
-      (t, there, subst (λ (told : Told). All P told.told) (sym (acted_as_executed m who t x e)) (executed_holds t there x e))
-  acted_holds (ThreadEnds t there e) = (
-    t,
-    there,
-    subst (λ b. All P (then_acted m who [] t b (ends_handler who t.pc) (performed n who t).executed).told) (sym e)
-        (then_holds (End who) tt (thread_ended who (reg_at t.regs 10) n) (λ id some. inl (thread_end_waits n turned_matched who (reg_at t.regs 10) id some))),
-  )
-  acted_holds (HandlerEnds t there low e) = (
-    t,
-    there,
-    subst (λ b. All P (then_acted m who [] t b (ends_handler who t.pc) (performed n who t).executed).told) (sym low)
-        (subst (λ b. All P (then_acted m who [] t false b (performed n who t).executed).told) (sym e) handler_holds),
-  )
-
-  step_is : step m ≡ record {
-    machine = (timed (counted n (m.threads who) (acted_if_there n (m.threads who)))).machine;
-    records = map (record_of (m.steps + 1)) (timed (counted n (m.threads who) (acted_if_there n (m.threads who)))).told;
-  }
-  unfolding step step_by
-  step_is = ap (λ a. step_by_if a m) acts
-
-  step_holds : All (λ (rec : Rec). P rec.what) (step m).records
-  step_holds =
-      let a = acted_holds (kind_of m who acts) in
-      subst (λ (s : Recorded). All (λ (rec : Rec). P rec.what) s.records) (sym step_is)
-      (subst (λ o. All (λ (rec : Rec). P rec.what) (map (record_of (m.steps + 1)) (timed (counted n o (acted_if_there n o))).told)) (sym a.1)
-      (All-map (λ (rec : Rec). P rec.what) (record_of (m.steps + 1)) (timed (counted n (Some a.0) (acted n a.0))).told
-      (timed_holds P (λ pid k. tt) (λ pid. tt) (counted n (Some a.0) (acted n a.0)) a.2)))
+  act_holds : (t : Thread) → m.threads who ≡ Some t → (done : Told) → ActCase m who t done → All P done.told
+  act_holds t there _ (Instructs x e) = executed_holds t there x e
+  act_holds t there _ (EndsThread e) =
+      then_holds (End who) tt (thread_ended who (reg_at t.regs 10) n) (λ id some. inl (thread_end_waits n turned_matched who (reg_at t.regs 10) id some))
+  act_holds t there _ (EndsHandler e) = handler_holds
 
 -- ---- any cause
 
@@ -272,23 +244,17 @@ event_holds m cause change due =
     (change_holds (λ what. IsReplyDue m cause what) (λ pid k. tt) (λ pid. tt) change (λ id words some. inl (due id some)))
 
 pub replies_are_due : RepliesAreDue
-unfolding picked raised killed
-replies_are_due ByStep m h = go (actor m) refl
+replies_are_due cause m h = by cause (record { machine = caused cause m; records = records_by cause m }) (case_of cause m)
   where
-    go : (o : Option ThreadId) → actor m ≡ o → All (λ (rec : Rec). IsReplyDue m ByStep rec.what) (step m).records
-    go None e = subst (λ (s : Recorded). All (λ (rec : Rec). IsReplyDue m ByStep rec.what) s.records) (sym (no_step m e)) (no_records m ByStep)
-    go (Some who) e = step_holds m h who e
-replies_are_due (ByPick who) m h = no_records m (ByPick who)
-replies_are_due (ByIrq k) m h = go (m.claims k)
-  where
-    go : (o : Option Claim) → All (λ (rec : Rec). IsReplyDue m (ByIrq k) rec.what) (raised_if k o (unreserved m)).records
-    go None = no_records m (ByIrq k)
-    go (Some claim) =
+    by : (cause : Cause) (next : Recorded) → CauseCase m cause next → All (λ (rec : Rec). IsReplyDue m cause rec.what) next.records
+    by _ _ (Rests cause cursor reserved) = no_records m cause
+    by _ _ (Steps who t acts there case) =
+        let done = acted (turned_to who m) t in
+        All-map (λ (rec : Rec). IsReplyDue m ByStep rec.what) (record_of (m.steps + 1)) (timed (counted (turned_to who m) (Some t) done)).told
+        (timed_holds (λ what. IsReplyDue m ByStep what) (λ pid k. tt) (λ pid. tt) (counted (turned_to who m) (Some t) done)
+        (act_holds m h who acts t there done case))
+    by _ _ (Raises k claim e) =
         event_holds m (ByIrq k) (pended k claim (unreserved m))
         (λ id some. absurd (false≢true (sym (delivered_answers (record (unreserved m) { pending = put_at nat_eq m.pending k true }) claim.pid id) ∙ some)))
-replies_are_due (ByKill pid) m h = go (m.process pid.0).alive
-  where
-    go : (b : Bool) → All (λ (rec : Rec). IsReplyDue m (ByKill pid) rec.what) (killed_if b pid (unreserved m)).records
-    go false = no_records m (ByKill pid)
-    go true = event_holds m (ByKill pid) (death pid (unreserved m)) (λ id some. death_waits (unreserved m) (matched_reserved m h None) pid id some)
-replies_are_due ByTurn m h = no_records m ByTurn
+    by _ _ (Kills pid e) =
+        event_holds m (ByKill pid) (death pid (unreserved m)) (λ id some. death_waits (unreserved m) (matched_reserved m h None) pid id some)

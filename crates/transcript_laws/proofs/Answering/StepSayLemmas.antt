@@ -17,25 +17,23 @@ use Rattle.machine_laws.proofs.Histories.MomentLemmas.{history_is_run}
 use Rattle.machine_model.specs.Ending.Ends.{death, handler_ended, thread_ended}
 use Rattle.machine_model.specs.Hart.Instructions.{CallsKernel, Executed, Next, Stores, StoresToConsole, StoresToTimer, Traps}
 use Rattle.machine_model.specs.Runs.Matched.{Matched}
-use Rattle.machine_model.specs.Runs.Moments.{Cause, ByStep, ByPick, ByIrq, ByKill, ByTurn, IsRun, Moment, caused, state_at}
+use Rattle.machine_model.specs.Runs.Moments.{Cause, IsRun, Moment, caused, state_at}
 use Rattle.machine_model.specs.State.Changes.{Told, settled}
-use Rattle.machine_model.specs.State.Machine.{Claim, Idle, Machine, Process, Ready, Thread, ThreadState}
-use Rattle.machine_model.specs.State.Order.{actor, ready_at, turn}
+use Rattle.machine_model.specs.State.Machine.{Idle, Machine, Process, Ready, Thread, ThreadState}
+use Rattle.machine_model.specs.State.Order.{actor, ready_at}
 use Rattle.machine_model.specs.State.Threads.{change_thread, thread_id, with_registers, with_state}
 use Rattle.machine_model.specs.State.Views.{stored, timer_set}
-use Rattle.machine_model.specs.Stepping.Events.{killed, killed_if, picked, raised, raised_if}
 use Rattle.machine_model.specs.Stepping.Interrupts.{delivered, pended}
 use Rattle.machine_model.specs.Stepping.Reservations.{unreserved}
-use Rattle.machine_model.specs.Stepping.Step.{Recorded, acted, acted_if_there, after, console_told, counted, ends_handler, executed, performed, record_of, step, step_by, step_by_if}
+use Rattle.machine_model.specs.Stepping.Step.{Recorded, acted, after, console_told, counted, executed, record_of, step}
 use Rattle.machine_model.specs.Stepping.Timer.{timed}
 use Rattle.machine_model.proofs.Runs.KeptLemmas.{matched_at}
-use Rattle.machine_model.proofs.StepLemmas.{no_step}
 use Rattle.machine_laws.proofs.Stepping.EveryStepLemmas.{every_cause_keeps, every_step_keeps}
-use Rattle.machine_laws.proofs.Stepping.StepKindLemmas.{Executes, HandlerEnds, StepKind, ThreadEnds, acted_as_executed, kind_of}
 use Rattle.machine_laws.proofs.Threading.ThreadAnswerLemmas.{IsReadyThread, ready_lives, ready_thread}
 use Rattle.machine_laws.proofs.Threading.ThreadMoveLemmas.{matched_reserved}
 use Rattle.machine_laws.proofs.Threading.ThreadPutLemmas.{alike}
-use Rattle.machine_laws.proofs.Threading.ThreadStepLemmas.{actor_ready, step_of_thread, then_acted, turned_to}
+use Rattle.machine_laws.proofs.Threading.ThreadStepLemmas.{actor_ready, step_of_thread, turned_to}
+use Rattle.confidentiality_laws.proofs.CauseCaseLemmas.{ActCase, CauseCase, EndsHandler, EndsThread, Instructs, Kills, Raises, Rests, Steps, case_of}
 use Rattle.transcript_laws.specs.AnsweredOnce.{AnsweredOnce, Free, LeadsIf, Says, SayInTurn, StandingsFollow, standing, standing_by}
 use Rattle.transcript_laws.specs.Answering.{awaits_reply, is_waiting}
 use Rattle.transcript_laws.proofs.Answering.CallSayLemmas.{call_tells}
@@ -184,21 +182,10 @@ module _ (m : Machine) (h : Matched m) (who : ThreadId) (acts : actor m ≡ Some
 
   -- ---- all that a thread does
 
-  acted_tells : StepKind m who → (t : Thread) × (m.threads who ≡ Some t) × Tells (standing m) (acted n t)
-  acted_tells (Executes t x there e) =
-      (t, there, subst (Tells (standing m)) (sym (acted_as_executed m who t x e)) (executed_tells t x))
-  acted_tells (ThreadEnds t there e) = (
-    t,
-    there,
-    subst (λ b. Tells (standing m) (then_acted m who [] t b (ends_handler who t.pc) (performed n who t).executed)) (sym e)
-        (thread_end_tells (reg_at t.regs 10)),
-  )
-  acted_tells (HandlerEnds t there low e) = (
-    t,
-    there,
-    subst (λ b. Tells (standing m) (then_acted m who [] t b (ends_handler who t.pc) (performed n who t).executed)) (sym low)
-        (subst (λ b. Tells (standing m) (then_acted m who [] t false b (performed n who t).executed)) (sym e) handler_end_tells),
-  )
+  act_tells : (t : Thread) (done : Told) → ActCase m who t done → Tells (standing m) done
+  act_tells t _ (Instructs x e) = executed_tells t x
+  act_tells t _ (EndsThread e) = thread_end_tells (reg_at t.regs 10)
+  act_tells t _ (EndsHandler e) = handler_end_tells
 
   abbrev done : Thread → Told
   done t = counted n (Some t) (acted n t)
@@ -226,49 +213,22 @@ told_leads m k done tells who =
 nothing_leads : (m : Machine) → LeadsOn m (record { machine = m; records = [] })
 nothing_leads m who = say_none who (standing m who)
 
--- what the step of a thread makes of a machine
-abbrev stepped : Machine → ThreadId → Option Thread → Recorded
-stepped m who o = record {
-  machine = (timed (counted (turned_to who m) o (acted_if_there (turned_to who m) o))).machine;
-  records = map (record_of (m.steps + 1)) (timed (counted (turned_to who m) o (acted_if_there (turned_to who m) o))).told;
-}
-
-step_is : (m : Machine) (who : ThreadId) → actor m ≡ Some who → step m ≡ stepped m who (m.threads who)
-unfolding step step_by
-step_is m who acts = ap (λ a. step_by_if a m) acts
-
-step_leads : (m : Machine) → Matched m → LeadsOn m (step m)
-step_leads m h = go (actor m) refl
-  where
-    go : (o : Option ThreadId) → actor m ≡ o → LeadsOn m (step m)
-    go None e = subst (LeadsOn m) (sym (no_step m e)) (nothing_leads m)
-    go (Some who) e =
-        let a = acted_tells m h who e (kind_of m who e) in
-        subst (LeadsOn m) (sym (step_is m who e))
-        (subst (λ o. LeadsOn m (stepped m who o)) (sym a.1)
-        (told_leads m (m.steps + 1) (timed (counted (turned_to who m) (Some a.0) (acted (turned_to who m) a.0))) (step_tells m h who e a.0 a.1 a.2)))
-
 pub cause_leads : (cause : Cause) (m : Machine) → Matched m → LeadsOn m (record { machine = caused cause m; records = records_by cause m })
-unfolding picked raised killed turn
-cause_leads ByStep m h = step_leads m h
-cause_leads (ByPick who) m h = nothing_leads m
-cause_leads (ByIrq k) m h = go (m.claims k)
+cause_leads cause m h = by cause (record { machine = caused cause m; records = records_by cause m }) (case_of cause m)
   where
-    go : (o : Option Claim) → LeadsOn m (raised_if k o (unreserved m))
-    go None = nothing_leads m
-    go (Some claim) =
+    by : (cause : Cause) (next : Recorded) → CauseCase m cause next → LeadsOn m next
+    by _ _ (Rests cause cursor reserved) = nothing_leads m
+    by _ _ (Steps who t acts there case) =
+        let done = acted (turned_to who m) t in
+        told_leads m (m.steps + 1) (timed (counted (turned_to who m) (Some t) done)) (step_tells m h who acts t there (act_tells m h who acts t done case))
+    by _ _ (Raises k claim e) =
         told_leads m m.steps (settled (pended k claim (unreserved m)))
         (delivers_tells (unreserved m) (pended k claim (unreserved m)) (pended_delivers (unreserved m) k claim)
         (handlers_live (unreserved m) (matched_reserved m h None)))
-cause_leads (ByKill pid) m h = go (m.process pid.0).alive refl
-  where
-    go : (b : Bool) → (m.process pid.0).alive ≡ b → LeadsOn m (killed_if b pid (unreserved m))
-    go false e = nothing_leads m
-    go true e =
+    by _ _ (Kills pid e) =
         told_leads m m.steps (settled (death pid (unreserved m)))
         (change_says (standing m) (death pid (unreserved m))
         (death_itself_fits (unreserved m) (matched_reserved m h None) pid e (standing m) (λ id. inl refl)))
-cause_leads ByTurn m h = nothing_leads m
 
 -- ---- runs and histories
 

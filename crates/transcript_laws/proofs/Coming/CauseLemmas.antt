@@ -1,39 +1,44 @@
 -- What each step, event and end of a turn lets come to which place.
-use Rattle.std.proofs.Common.{◌≡◌, ℕ, ◌⊎◌, inl, inr, Bool, true, false, [], List, Option, Some, None, refl, sym, ap, ◌∙◌, subst}
+use Rattle.std.proofs.Common.{◌≡◌, ℕ, ◌⊎◌, inl, inr, true, List, Some, None, refl, sym, ap, ◌∙◌, subst}
 use Rattle.xk_base.specs.declared.ids.Pid.{Pid}
 use Rattle.xk_base.specs.declared.ids.Place.{Place}
 use Rattle.xk_base.specs.declared.ids.ThreadId.{ThreadId}
 use Rattle.xk_base.specs.Calls.Registers.{arguments_of, reg_at}
 use Rattle.ledger_model.specs.Ledger.{Ledger, Page, PageLoan, loan_at}
 use Rattle.machine_model.specs.Calling.Calls.{call}
-use Rattle.machine_model.specs.Ending.Ends.{death, end_with_last_thread, handler_ended, has_threads, thread_ended}
+use Rattle.machine_model.specs.Ending.Ends.{death, handler_ended, thread_ended}
 use Rattle.machine_model.specs.Hart.Instructions.{CallsKernel, Executed, Next, Stores, StoresToConsole, StoresToTimer, Traps}
 use Rattle.machine_model.specs.Runs.Isolation.{IsOneStore}
 use Rattle.machine_model.specs.Runs.Matched.{Matched}
-use Rattle.machine_model.specs.Runs.Moments.{ByIrq, ByKill, ByPick, ByStep, ByTurn, Cause}
-use Rattle.machine_model.specs.State.Changes.{Change, Outcome, Refused, Retried, Served, settled}
+use Rattle.machine_model.specs.Runs.Moments.{ByIrq, ByKill, ByStep, Cause}
+use Rattle.machine_model.specs.State.Changes.{Change, Outcome, Refused, Retried, Served}
 use Rattle.machine_model.specs.State.Machine.{Machine, Thread}
-use Rattle.machine_model.specs.State.Order.{actor, turn}
+use Rattle.machine_model.specs.State.Order.{actor}
 use Rattle.machine_model.specs.State.Threads.{put_thread}
 use Rattle.machine_model.specs.Stepping.Acts.{call_by, does_instruction, executes, is_call_served, is_served}
-use Rattle.machine_model.specs.Stepping.Events.{killed, killed_if, picked, raised}
+use Rattle.machine_model.specs.Stepping.Events.{killed, raised}
 use Rattle.machine_model.specs.Stepping.Reservations.{unreserved}
-use Rattle.machine_model.specs.Stepping.Step.{Recorded, ends_handler, performed, step}
+use Rattle.machine_model.specs.Stepping.Step.{Recorded, step}
 use Rattle.machine_model.proofs.Runs.KeptLemmas.{matched_at}
-use Rattle.machine_model.proofs.StepLemmas.{no_step}
 use Rattle.machine_laws.proofs.Executing.InstructionStepLemmas.{instruction_stores}
-use Rattle.machine_laws.proofs.Stepping.StepKindLemmas.{Executes, HandlerEnds, StepKind, ThreadEnds, acted_as_executed, is_call, is_done, kind_of}
-use Rattle.machine_laws.proofs.Threading.ThreadStepLemmas.{actor_ready, then_acted, turned_to}
+use Rattle.machine_laws.proofs.Stepping.StepKindLemmas.{is_call, is_done}
+use Rattle.machine_laws.proofs.Threading.ThreadStepLemmas.{actor_ready, turned_to}
 use Rattle.call_effects.proofs.ServedLemmas.{OfServed}
 use Rattle.confidentiality_laws.proofs.Keeping.CallLemmas.{ledger_after, settled_ledger}
 use Rattle.confidentiality_laws.proofs.Keeping.DeathLemmas.{death_orphans}
 use Rattle.confidentiality_laws.proofs.Spreading.CauseLemmas.{irq_ledger}
 use Rattle.confidentiality_laws.proofs.Spreading.StepLemmas.{handler_ledger}
 use Rattle.loan_laws.proofs.Fates.LikeLemmas.{call_like, settled_like, step_like}
+use Rattle.confidentiality_laws.proofs.CauseCaseLemmas.{ActCase, CauseCase, EndCase, EndsHandler, EndsThread, Instructs, IsLast, Kills, LeavesOthers, Raises, Rests, Steps, case_of}
+use Rattle.confidentiality_laws.proofs.CauseCaseLemmas.{end_of}
 use Rattle.transcript_laws.specs.Coming.{AllPagesCome, IsLent, IsMade, IsMoved, PagesCome}
 use Rattle.transcript_laws.proofs.Coming.LedgerLemmas.{NoneComes, none_comes, only_orphans, same_ledger, write_none}
 use Rattle.transcript_laws.proofs.Coming.RowLemmas.{call_comes}
 use Rattle.transcript_laws.proofs.Serving.AtServerLemmas.{arrives_like, call_turned, served_like}
+use Rattle.confidentiality_laws.specs.TwoRuns.{records_by}
+use Rattle.machine_model.specs.Runs.Moments.{caused}
+use Rattle.machine_model.specs.State.Changes.{Told}
+use Rattle.machine_model.specs.Stepping.Step.{acted, executed}
 
 -- nothing comes where the ledger stays
 stays_come : (cause : Cause) (m : Machine) (after : Ledger) → after ≡ m.ledger → PagesCome cause m after
@@ -147,63 +152,38 @@ module _ (m : Machine) (h : Matched m) (who : ThreadId) (acts : actor m ≡ Some
           subst (OfServed (λ (c : Change). PagesCome ByStep n c.machine.ledger)) e
           (call_comes ByStep refl n (matched_at who m h) (actor_ready m who acts) w turned_acts (call_turned m who ∙ calls) (went w change e))
 
-  executed_comes : (t : Thread) → m.threads who ≡ Some t → (x : Executed) → executes m who t ≡ Some x → Comes
-  executed_comes t there (Next regs pc) e = instruction_comes (is_done m who t there (Next regs pc) e refl)
-  executed_comes t there (Stores address width value regs pc) e = instruction_comes (is_done m who t there (Stores address width value regs pc) e refl)
-  executed_comes t there (StoresToConsole offset value regs pc) e = instruction_comes (is_done m who t there (StoresToConsole offset value regs pc) e refl)
-  executed_comes t there (StoresToTimer offset width value regs pc) e =
+  executed_comes : (t : Thread) → m.threads who ≡ Some t → (x : Executed) → executes m who t ≡ Some x
+      → (step m).machine.ledger ≡ (executed n t x).machine.ledger → Comes
+  executed_comes t there (Next regs pc) e is = instruction_comes (is_done m who t there (Next regs pc) e refl)
+  executed_comes t there (Stores address width value regs pc) e is =
+      instruction_comes (is_done m who t there (Stores address width value regs pc) e refl)
+  executed_comes t there (StoresToConsole offset value regs pc) e is =
+      instruction_comes (is_done m who t there (StoresToConsole offset value regs pc) e refl)
+  executed_comes t there (StoresToTimer offset width value regs pc) e is =
       instruction_comes (is_done m who t there (StoresToTimer offset width value regs pc) e refl)
-  executed_comes t there CallsKernel e = called_comes (arguments_of t.regs) (is_call m who t there e)
-  executed_comes t there (Traps code value) e =
-      death_comes ByStep m n who.pid (step m).machine.ledger refl
-      ((step_like m who t acts there).ledger
-      ∙ (ap (λ told. told.machine.ledger) (acted_as_executed m who t (Traps code value) e) ∙ (settled_like (death who.pid n)).ledger))
+  executed_comes t there CallsKernel e is = called_comes (arguments_of t.regs) (is_call m who t there e)
+  executed_comes t there (Traps code value) e is =
+      death_comes ByStep m n who.pid (step m).machine.ledger refl (is ∙ (settled_like (death who.pid n)).ledger)
 
-  thread_end_comes : (a0 : ℕ) → (step m).machine.ledger ≡ (thread_ended who a0 n).machine.ledger → Comes
-  unfolding thread_ended
-  thread_end_comes a0 is = go (has_threads (put_thread who None n) who.pid) is
-    where
-      go : (b : Bool) → (step m).machine.ledger ≡ (end_with_last_thread b who.pid (put_thread who None n)).machine.ledger → Comes
-      go true e = stays_come ByStep m (step m).machine.ledger e
-      go false e = death_comes ByStep m (put_thread who None n) who.pid (step m).machine.ledger refl e
+  thread_end_comes : (a0 : ℕ) (change : Change) → EndCase who a0 n change → (step m).machine.ledger ≡ change.machine.ledger → Comes
+  thread_end_comes a0 _ LeavesOthers is = stays_come ByStep m (step m).machine.ledger is
+  thread_end_comes a0 _ IsLast is = death_comes ByStep m (put_thread who None n) who.pid (step m).machine.ledger refl is
 
-  kind_comes : StepKind m who → Comes
-  kind_comes (Executes t x there e) = executed_comes t there x e
-  kind_comes (ThreadEnds t there ends) =
-      thread_end_comes (reg_at t.regs 10)
-      ((step_like m who t acts there).ledger
-      ∙ (ap (λ b. (then_acted m who [] t b (ends_handler who t.pc) (performed n who t).executed).machine.ledger) ends
-      ∙ (settled_like (thread_ended who (reg_at t.regs 10) n)).ledger))
-  kind_comes (HandlerEnds t there low ends) =
-      stays_come ByStep m (step m).machine.ledger
-      ((step_like m who t acts there).ledger
-      ∙ (ap (λ b. (then_acted m who [] t b (ends_handler who t.pc) (performed n who t).executed).machine.ledger) low
-      ∙ (ap (λ b. (then_acted m who [] t false b (performed n who t).executed).machine.ledger) ends
-      ∙ ((settled_like (handler_ended who.pid n)).ledger ∙ handler_ledger who.pid n))))
-
-step_comes : (m : Machine) → Matched m → PagesCome ByStep m (step m).machine.ledger
-step_comes m h = go (actor m) refl
-  where
-    go : (o : Option ThreadId) → actor m ≡ o → PagesCome ByStep m (step m).machine.ledger
-    go None e = stays_come ByStep m (step m).machine.ledger (ap (λ (r : Recorded). r.machine.ledger) (no_step m e))
-    go (Some who) e = kind_comes m h who e (kind_of m who e)
-
--- ---- events and ends of turns
-
-kill_comes : (pid : Pid) (m : Machine) → PagesCome (ByKill pid) m (killed pid m).machine.ledger
-unfolding killed
-kill_comes pid m = go (m.process pid.0).alive
-  where
-    go : (b : Bool) → PagesCome (ByKill pid) m (killed_if b pid (unreserved m)).machine.ledger
-    go false = stays_come (ByKill pid) m m.ledger refl
-    go true =
-        death_comes (ByKill pid) m (unreserved m) pid (settled (death pid (unreserved m))).machine.ledger refl
-        (settled_like (death pid (unreserved m))).ledger
+  act_comes : (t : Thread) → m.threads who ≡ Some t → (done : Told) → ActCase m who t done → (step m).machine.ledger ≡ done.machine.ledger → Comes
+  act_comes t there _ (Instructs x e) is = executed_comes t there x e is
+  act_comes t there _ (EndsThread e) is =
+      let ended = thread_ended who (reg_at t.regs 10) n in
+      thread_end_comes (reg_at t.regs 10) ended (end_of who (reg_at t.regs 10) n) (is ∙ (settled_like ended).ledger)
+  act_comes t there _ (EndsHandler e) is =
+      stays_come ByStep m (step m).machine.ledger (is ∙ ((settled_like (handler_ended who.pid n)).ledger ∙ handler_ledger who.pid n))
 
 pub all_come : AllPagesCome
-unfolding picked turn
-all_come ByStep m h = step_comes m h
-all_come (ByPick who) m h = stays_come (ByPick who) m m.ledger refl
-all_come (ByIrq k) m h = stays_come (ByIrq k) m (raised k m).machine.ledger (irq_ledger k m)
-all_come (ByKill pid) m h = kill_comes pid m
-all_come ByTurn m h = stays_come ByTurn m m.ledger refl
+all_come cause m h = by cause (record { machine = caused cause m; records = records_by cause m }) (case_of cause m) refl
+  where
+    by : (cause : Cause) (next : Recorded) → CauseCase m cause next → (caused cause m).ledger ≡ next.machine.ledger
+        → PagesCome cause m (caused cause m).ledger
+    by _ _ (Rests cause cursor reserved) is = stays_come cause m (caused cause m).ledger is
+    by _ _ (Steps who t acts there case) is = act_comes m h who acts t there (acted (turned_to who m) t) case (step_like m who t acts there).ledger
+    by _ _ (Raises k claim e) is = stays_come (ByIrq k) m (raised k m).machine.ledger (irq_ledger k m)
+    by _ _ (Kills pid e) is =
+        death_comes (ByKill pid) m (unreserved m) pid (killed pid m).machine.ledger refl (is ∙ (settled_like (death pid (unreserved m))).ledger)

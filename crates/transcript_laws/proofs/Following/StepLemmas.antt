@@ -24,28 +24,27 @@ use Rattle.machine_laws.specs.HistoryMoments.{moments_of}
 use Rattle.machine_laws.proofs.Histories.MomentLemmas.{history_is_run}
 use Rattle.machine_model.specs.Calling.Calls.{call}
 use Rattle.machine_model.specs.Ending.Closing.{closed, is_sender_at, senders_held_gone, senders_queued_gone, servers_closed, with_senderless_from, without_queued_from}
-use Rattle.machine_model.specs.Ending.Ends.{death, end_with_last_thread, forgotten, handler_ended, has_threads, joiners_answered, thread_ended, waits_for_end}
+use Rattle.machine_model.specs.Ending.Ends.{death, forgotten, handler_ended, joiners_answered, thread_ended, waits_for_end}
 use Rattle.machine_model.specs.Hart.Instructions.{CallsKernel, Executed, Next, Stores, StoresToConsole, StoresToTimer, Traps}
 use Rattle.machine_model.specs.Runs.Matched.{Matched}
-use Rattle.machine_model.specs.Runs.Moments.{Cause, ByStep, ByPick, ByIrq, ByKill, ByTurn, IsRun, Moment, caused, state_at}
+use Rattle.machine_model.specs.Runs.Moments.{Cause, IsRun, Moment, caused, state_at}
 use Rattle.machine_model.specs.State.Changes.{Change, only, Outcome, Refused, Retried, Served, Told, call_settled, settled}
 use Rattle.machine_model.specs.State.Machine.{Claim, Idle, Machine, Server, Thread}
 use Rattle.machine_model.specs.State.Order.{actor, ready_at, turn}
 use Rattle.machine_model.specs.State.Servers.{is_server_of}
 use Rattle.machine_model.specs.State.Threads.{Answers, both_answers, change_thread, no_answers, passed, put_thread, thread_id, with_registers, with_state}
 use Rattle.machine_model.specs.State.Views.{stored, timer_set}
-use Rattle.machine_model.specs.Stepping.Events.{killed, killed_if, picked, raised, raised_if}
-use Rattle.machine_model.specs.Stepping.Interrupts.{cursor_after, delivered, delivered_lowest, handler_started, is_free_for_interrupt, lowest_pending, pended}
+use Rattle.machine_model.specs.Stepping.Interrupts.{cursor_after, delivered, handler_started, pended}
 use Rattle.machine_model.specs.Stepping.Reservations.{unreserved}
-use Rattle.machine_model.specs.Stepping.Step.{Recorded, acted, acted_if_there, after, console_told, counted, ends_handler, executed, performed, record_of, step, step_by, step_by_if}
+use Rattle.machine_model.specs.Stepping.Step.{Recorded, acted, after, console_told, counted, executed, record_of}
 use Rattle.machine_model.specs.Stepping.Timer.{timed}
 use Rattle.machine_model.proofs.Runs.KeptLemmas.{matched_at}
-use Rattle.machine_model.proofs.StepLemmas.{no_step}
 use Rattle.machine_laws.proofs.Stepping.EveryStepLemmas.{every_cause_keeps}
-use Rattle.machine_laws.proofs.Stepping.StepKindLemmas.{Executes, HandlerEnds, StepKind, ThreadEnds, acted_as_executed, kind_of}
 use Rattle.machine_laws.proofs.Threading.ThreadAnswerLemmas.{same_thread-self}
-use Rattle.machine_laws.proofs.Threading.ThreadStepLemmas.{actor_ready, then_acted, turned_to}
+use Rattle.machine_laws.proofs.Threading.ThreadStepLemmas.{actor_ready, turned_to}
 use Rattle.call_effects.proofs.ServedLemmas.{OfServed}
+use Rattle.confidentiality_laws.proofs.CauseCaseLemmas.{ActCase, CauseCase, EndCase, EndsHandler, EndsThread, Instructs, IsLast, Kills, LeavesOthers, Raises, Rests, StartCase, Starts}
+use Rattle.confidentiality_laws.proofs.CauseCaseLemmas.{StartsNone, Steps, case_of, end_of, start_of}
 use Rattle.transcript_laws.specs.Following.{Lacks, MessagesFollow, Leads, LeadInTurn, Standing, Stands, Stays, is_message_of, is_plain}
 use Rattle.transcript_laws.specs.Following.{is_return_call, is_served_by, keeping, next_answer}
 use Rattle.transcript_laws.proofs.Following.EndLemmas.{death_keeps}
@@ -209,33 +208,24 @@ dies_told number m h pid n servers count = death_told number m h pid n servers c
 
 -- the delivery of one moves no message
 module _ (number : Number) (m : Machine) where
-  handler_told : (n : Machine) → n.servers ≡ m.servers → n.next_number ≡ m.next_number → (pid : Pid) (k : ℕ) (o : Option Claim) (cursor : ThreadId)
-      → Tells number m (settled (record (handler_started n pid k o) { machine = record (handler_started n pid k o).machine { cursor = cursor } }))
-  handler_told n servers count pid k None cursor a stands =
+  started_told : (n : Machine) → n.servers ≡ m.servers → n.next_number ≡ m.next_number → (pid : Pid) (change : Change) → StartCase pid n change → (cursor : ThreadId)
+      → Tells number m (settled (record change { machine = record change.machine { cursor = cursor } }))
+  started_told n servers count pid _ StartsNone cursor a stands =
       change_tells number (record (only n) { machine = record n { cursor = cursor } }) a a a (Quiet (none_quiet number (λ id. false)) a) refl
       (like_stands number m (record n { cursor = cursor }) servers count a stands)
-  handler_told n servers count pid k (Some claim) cursor a stands =
+  started_told n servers count pid _ (Starts k claim e) cursor a stands =
       let change = handler_started n pid k (Some claim) in
       change_tells number (record change { machine = record change.machine { cursor = cursor } }) a a a (Quiet (none_quiet number (λ id. false)) a) refl
       (like_stands number m (record change.machine { cursor = cursor }) servers count a stands)
 
-  lowest_told : (n : Machine) → n.servers ≡ m.servers → n.next_number ≡ m.next_number → (pid : Pid) (o : Option ℕ) (cursor : ThreadId)
-      → Tells number m (settled (record (delivered_lowest n pid o) { machine = record (delivered_lowest n pid o).machine { cursor = cursor } }))
-  lowest_told n servers count pid None cursor = handler_told n servers count pid 0 None cursor
-  lowest_told n servers count pid (Some k) cursor = handler_told n servers count pid k (n.claims k) cursor
-
   pub delivered_told : (pid : Pid) (n : Machine) → n.servers ≡ m.servers → n.next_number ≡ m.next_number → Tells number m (settled (delivered pid n))
-  unfolding delivered
-  delivered_told pid n servers count =
-      lowest_told n servers count pid (if is_free_for_interrupt n pid then lowest_pending n pid else None)
-      (delivered_lowest n pid (if is_free_for_interrupt n pid then lowest_pending n pid else None)).machine.cursor
+  delivered_told pid n servers count = started_told n servers count pid (delivered pid n) (start_of pid n) (delivered pid n).machine.cursor
 
   pub pended_told : (k : ℕ) (claim : Claim) (n : Machine) → n.servers ≡ m.servers → n.next_number ≡ m.next_number → Tells number m (settled (pended k claim n))
-  unfolding delivered
   pended_told k claim n servers count =
-      let raised : Machine = record n { pending = put_at nat_eq n.pending k true } in
-      let o = if is_free_for_interrupt raised claim.pid then lowest_pending raised claim.pid else None in
-      lowest_told raised servers count claim.pid o (cursor_after (delivered_lowest raised claim.pid o).delivery (delivered_lowest raised claim.pid o).machine.cursor)
+      let change = delivered claim.pid (record n { pending = put_at nat_eq n.pending k true }) in
+      started_told (record n { pending = put_at nat_eq n.pending k true }) servers count claim.pid change
+      (start_of claim.pid (record n { pending = put_at nat_eq n.pending k true })) (cursor_after change.delivery change.machine.cursor)
 
 -- ---- a step
 
@@ -288,21 +278,16 @@ module _ (number : Number) (m : Machine) (h : Matched m) (who : ThreadId) (acts 
       go false q = absurd (none-some words q)
 
   thread_end_told : (a0 : ℕ) → Tells number m (after (End who) (settled (thread_ended who a0 n)))
-  unfolding thread_ended
   thread_end_told a0 =
       then_told (End who) (settled (thread_ended who a0 n)) (λ later a. Stays (End who) later a refl) (λ later. tt)
-      (go (has_threads (put_thread who None n) who.pid))
+      (by (thread_ended who a0 n) (end_of who a0 n))
     where
-      go : (b : Bool) → Tells number m (settled (record (end_with_last_thread b who.pid (put_thread who None n)) {
-        answers = both_answers (joiners_answered n who a0) (end_with_last_thread b who.pid (put_thread who None n)).answers;
-      }))
-      go true = λ a stands.
-          change_tells number (record (end_with_last_thread true who.pid (put_thread who None n)) {
-            answers = both_answers (joiners_answered n who a0) no_answers;
-          }) a a a
+      by : (change : Change) → EndCase who a0 n change → Tells number m (settled change)
+      by _ LeavesOthers = λ a stands.
+          change_tells number (record (only (put_thread who None n)) { answers = both_answers (joiners_answered n who a0) no_answers }) a a a
           (Quiet (both_quiet number (λ id. false) (joiners_answered n who a0) no_answers (joiners_quiet a0) (none_quiet number (λ id. false))) a) refl
           (like_stands number m (put_thread who None n) refl refl a stands)
-      go false =
+      by _ IsLast =
           death_told number m h who.pid (put_thread who None n) refl refl (both_answers (joiners_answered n who a0) (death who.pid (put_thread who None n)).answers)
           (both_quiet number (λ id. false) (joiners_answered n who a0) (death who.pid (put_thread who None n)).answers (joiners_quiet a0)
           (death_quiet number who.pid (put_thread who None n)))
@@ -315,20 +300,10 @@ module _ (number : Number) (m : Machine) (h : Matched m) (who : ThreadId) (acts 
 
   -- ---- all that a thread does
 
-  acted_told : StepKind m who → (t : Thread) × (m.threads who ≡ Some t) × Tells number m (acted n t)
-  acted_told (Executes t x there e) = (t, there, subst (Tells number m) (sym (acted_as_executed m who t x e)) (executed_told t x))
-  acted_told (ThreadEnds t there e) = (
-    t,
-    there,
-    subst (λ b. Tells number m (then_acted m who [] t b (ends_handler who t.pc) (performed n who t).executed)) (sym e)
-        (thread_end_told (reg_at t.regs 10)),
-  )
-  acted_told (HandlerEnds t there low e) = (
-    t,
-    there,
-    subst (λ b. Tells number m (then_acted m who [] t b (ends_handler who t.pc) (performed n who t).executed)) (sym low)
-        (subst (λ b. Tells number m (then_acted m who [] t false b (performed n who t).executed)) (sym e) handler_end_told),
-  )
+  act_told : (t : Thread) (done : Told) → ActCase m who t done → Tells number m done
+  act_told t _ (Instructs x e) = executed_told t x
+  act_told t _ (EndsThread e) = thread_end_told (reg_at t.regs 10)
+  act_told t _ (EndsHandler e) = handler_end_told
 
 -- ---- any cause
 
@@ -360,17 +335,6 @@ nothing_leads : (number : Number) (m next : Machine) → next.servers ≡ m.serv
 nothing_leads number m next servers count a stands =
     told_leads number a 0 (record { machine = next; told = [] }) (nothing_told number next a (like_stands number m next servers count a stands))
 
--- what the step of a thread makes of a machine
-abbrev pub stepped : Machine → ThreadId → Option Thread → Recorded
-stepped m who o = record {
-  machine = (timed (counted (turned_to who m) o (acted_if_there (turned_to who m) o))).machine;
-  records = map (record_of (m.steps + 1)) (timed (counted (turned_to who m) o (acted_if_there (turned_to who m) o))).told;
-}
-
-pub step_is : (m : Machine) (who : ThreadId) → actor m ≡ Some who → step m ≡ stepped m who (m.threads who)
-unfolding step step_by
-step_is m who acts = ap (λ a. step_by_if a m) acts
-
 counted_told : (number : Number) (m : Machine) (a : Standing) (t : Thread) (done : Told) → MessageTold number a done → MessageTold number a (counted m (Some t) done)
 counted_told number m a t done told = record {
   end = told.end;
@@ -379,35 +343,20 @@ counted_told number m a t done told = record {
   settled = told.settled;
 }
 
-step_leads : (number : Number) (m : Machine) → Matched m → LeadsOn number m (step m)
-step_leads number m h = go (actor m) refl
-  where
-    go : (o : Option ThreadId) → actor m ≡ o → LeadsOn number m (step m)
-    go None e = subst (LeadsOn number m) (sym (no_step m e)) (nothing_leads number m m refl refl)
-    go (Some who) e =
-        let t = acted_told number m h who e (kind_of m who e) in
-        subst (LeadsOn number m) (sym (step_is m who e))
-        (subst (λ o. LeadsOn number m (stepped m who o)) (sym t.1)
-        (λ a stands. told_leads number a (m.steps + 1) (timed (counted (turned_to who m) (Some t.0) (acted (turned_to who m) t.0)))
-        (timed_told number a (counted (turned_to who m) (Some t.0) (acted (turned_to who m) t.0))
-        (counted_told number (turned_to who m) a t.0 (acted (turned_to who m) t.0) (t.2 a stands)))))
-
 pub cause_leads : (number : Number) (cause : Cause) (m : Machine) → Matched m → LeadsOn number m (record { machine = caused cause m; records = records_by cause m })
-unfolding picked raised killed turn
-cause_leads number ByStep m h = step_leads number m h
-cause_leads number (ByPick who) m h = nothing_leads number m _ refl refl
-cause_leads number (ByIrq k) m h = go (m.claims k)
+cause_leads number cause m h = by cause (record { machine = caused cause m; records = records_by cause m }) (case_of cause m)
   where
-    go : (o : Option Claim) → LeadsOn number m (raised_if k o (unreserved m))
-    go None = nothing_leads number m (unreserved m) refl refl
-    go (Some claim) = λ a stands.
+    by : (cause : Cause) (next : Recorded) → CauseCase m cause next → LeadsOn number m next
+    by _ _ (Rests cause cursor reserved) = nothing_leads number m (record m { cursor = cursor; reserved = reserved }) refl refl
+    by _ _ (Steps who t acts there case) = λ a stands.
+        let done = acted (turned_to who m) t in
+        told_leads number a (m.steps + 1) (timed (counted (turned_to who m) (Some t) done))
+        (timed_told number a (counted (turned_to who m) (Some t) done)
+        (counted_told number (turned_to who m) a t done (act_told number m h who acts t done case a stands)))
+    by _ _ (Raises k claim e) = λ a stands.
         told_leads number a m.steps (settled (pended k claim (unreserved m))) (pended_told number m k claim (unreserved m) refl refl a stands)
-cause_leads number (ByKill pid) m h = go (m.process pid.0).alive
-  where
-    go : (b : Bool) → LeadsOn number m (killed_if b pid (unreserved m))
-    go false = nothing_leads number m (unreserved m) refl refl
-    go true = λ a stands. told_leads number a m.steps (settled (death pid (unreserved m))) (dies_told number m h pid (unreserved m) refl refl a stands)
-cause_leads number ByTurn m h = nothing_leads number m (turn m) refl refl
+    by _ _ (Kills pid e) = λ a stands.
+        told_leads number a m.steps (settled (death pid (unreserved m))) (dies_told number m h pid (unreserved m) refl refl a stands)
 
 -- ---- runs and histories
 

@@ -21,21 +21,24 @@ use Rattle.machine_model.specs.Calling.Calls.{call}
 use Rattle.machine_model.specs.Ending.Closing.{closed, servers_closed}
 use Rattle.machine_model.specs.Ending.Ends.{death, end_with_last_thread, handler_ended, has_threads, thread_ended}
 use Rattle.machine_model.specs.Hart.Instructions.{CallsKernel, Executed, Next, Stores, StoresToConsole, StoresToTimer, Traps}
-use Rattle.machine_model.specs.Runs.Moments.{Cause, ByStep, ByPick, ByIrq, ByKill, ByTurn}
+use Rattle.machine_model.specs.Runs.Moments.{Cause}
 use Rattle.machine_model.specs.State.Changes.{Change, Delivery, Outcome, Refused, Retried, Served, Told, call_settled, change_told, delivery_told, settled}
 use Rattle.machine_model.specs.State.Machine.{Claim, Idle, Machine, Thread}
-use Rattle.machine_model.specs.State.Order.{actor}
 use Rattle.machine_model.specs.State.Threads.{change_thread, passed, put_thread, thread_id, with_state}
-use Rattle.machine_model.specs.Stepping.Events.{killed, killed_if, picked, raised, raised_if}
 use Rattle.machine_model.specs.Stepping.Interrupts.{delivered, delivered_lowest, handler_started, is_free_for_interrupt, lowest_pending, pended}
 use Rattle.machine_model.specs.Stepping.Reservations.{unreserved}
-use Rattle.machine_model.specs.Stepping.Step.{acted_if_there, after, console_told, counted, ends_handler, ends_thread, executed, performed, record_of, step, step_by, step_by_if}
+use Rattle.machine_model.specs.Stepping.Step.{acted_if_there, after, console_told, counted, ends_handler, ends_thread, executed, performed, record_of}
 use Rattle.machine_model.specs.Stepping.Timer.{is_due, raised_by_timer, timed, timed_if, timer_change}
 use Rattle.machine_laws.proofs.Threading.ThreadAnswerLemmas.{same_thread-self}
+use Rattle.confidentiality_laws.proofs.CauseCaseLemmas.{CauseCase, Kills, Raises, Rests, Steps, case_of}
 use Rattle.transcript_laws.specs.RecordOrder.{IsBefore, StandInOrder, rank}
 use Rattle.transcript_laws.proofs.Ordering.ChangeLemmas.{IsNoIrqOf, IsOrdered, all_told, first_ordered, settled_late, settled_ordered}
 use Rattle.transcript_laws.proofs.Ordering.ChangeLemmas.{with_irq_if_ordered}
 use Rattle.transcript_laws.proofs.Ordering.PairLemmas.{pairs_none, pairs_one, pairs_to_map}
+use Rattle.call_effects.proofs.ServedLemmas.{done}
+use Rattle.machine_laws.proofs.Threading.ThreadStepLemmas.{turned_to}
+use Rattle.machine_model.specs.Runs.Moments.{caused}
+use Rattle.machine_model.specs.Stepping.Step.{Recorded, acted}
 
 -- ---- a handler that is started by a change runs
 
@@ -256,28 +259,14 @@ recorded n told ordered = pairs_to_map (λ (a b : Rec). IsBefore a.what b.what) 
 none_in_order : StandInOrder []
 none_in_order = pairs_none (λ (a b : Rec). IsBefore a.what b.what)
 
-step_in_order : (m : Machine) (o : Option ThreadId) → StandInOrder (step_by_if o m).records
-unfolding step_by
-step_in_order m None = none_in_order
-step_in_order m (Some who) =
-    let turned : Machine = record m { cursor = who } in
-    let acts : Told = acted_if_there turned (m.threads who) in
-    let told : IsTold acts = acted_is_told turned (m.threads who) in
-    recorded (m.steps + 1) (timed (counted turned (m.threads who) acts)).told
-    (timed_ordered (counted turned (m.threads who) acts) (record { ordered = told.ordered; running = told.running }))
-
 pub records_in_order : (cause : Cause) (m : Machine) → StandInOrder (records_by cause m)
-unfolding step picked raised killed
-records_in_order ByStep m = step_in_order m (actor m)
-records_in_order (ByPick who) m = none_in_order
-records_in_order (ByIrq k) m = go (m.claims k)
+records_in_order cause m = by cause (record { machine = caused cause m; records = records_by cause m }) (case_of cause m)
   where
-    go : (o : Option Claim) → StandInOrder (raised_if k o (unreserved m)).records
-    go None = none_in_order
-    go (Some claim) = recorded m.steps (settled (pended k claim (unreserved m))).told (settled_ordered (pended k claim (unreserved m)))
-records_in_order (ByKill pid) m = go (m.process pid.0).alive
-  where
-    go : (b : Bool) → StandInOrder (killed_if b pid (unreserved m)).records
-    go false = none_in_order
-    go true = recorded m.steps (settled (death pid (unreserved m))).told (settled_ordered (death pid (unreserved m)))
-records_in_order ByTurn m = none_in_order
+    by : (cause : Cause) (next : Recorded) → CauseCase m cause next → StandInOrder next.records
+    by _ _ (Rests cause cursor reserved) = none_in_order
+    by _ _ (Steps who t acts there case) =
+        let told : IsTold (acted_if_there (turned_to who m) (Some t)) = acted_is_told (turned_to who m) (Some t) in
+        let done = counted (turned_to who m) (Some t) (acted (turned_to who m) t) in
+        recorded (m.steps + 1) (timed done).told (timed_ordered done (record { ordered = told.ordered; running = told.running }))
+    by _ _ (Raises k claim e) = recorded m.steps (settled (pended k claim (unreserved m))).told (settled_ordered (pended k claim (unreserved m)))
+    by _ _ (Kills pid e) = recorded m.steps (settled (death pid (unreserved m))).told (settled_ordered (death pid (unreserved m)))

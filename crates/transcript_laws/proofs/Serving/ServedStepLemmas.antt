@@ -21,10 +21,10 @@ use Rattle.xk_base.proofs.CircleLemmas.{listed_ids-passes}
 use Rattle.confidentiality_laws.specs.TwoRuns.{records_by}
 use Rattle.machine_model.specs.Calling.Calls.{call}
 use Rattle.machine_model.specs.Ending.Closing.{closed, is_sender_at, senders_held_gone, senders_queued_gone, servers_closed, with_senderless_from, without_queued_from}
-use Rattle.machine_model.specs.Ending.Ends.{death, end_with_last_thread, forgotten, handler_ended, has_threads, is_joining, joiners_answered, thread_ended, waits_for_end}
+use Rattle.machine_model.specs.Ending.Ends.{death, forgotten, handler_ended, is_joining, joiners_answered, thread_ended, waits_for_end}
 use Rattle.machine_model.specs.Hart.Instructions.{CallsKernel, Executed, Next, Stores, StoresToConsole, StoresToTimer, Traps}
 use Rattle.machine_model.specs.Runs.Matched.{Matched, is_waiting_for}
-use Rattle.machine_model.specs.Runs.Moments.{ByIrq, ByKill, ByPick, ByStep, ByTurn, Cause, caused}
+use Rattle.machine_model.specs.Runs.Moments.{ByIrq, ByKill, ByStep, Cause, caused}
 use Rattle.machine_model.specs.State.Changes.{Change, Delivery, Outcome, Refused, Retried, Served, Told, call_settled, death_told, delivery_told, only, replies, settled}
 use Rattle.machine_model.specs.State.Machine.{Claim, Idle, Joining, Machine, Ready, Receiving, Server, Thread, ThreadState, Waiting}
 use Rattle.machine_model.specs.State.Order.{actor, ready_at, turn}
@@ -32,27 +32,28 @@ use Rattle.machine_model.specs.State.Servers.{is_server_of}
 use Rattle.machine_model.specs.State.Threads.{Answers, both_answers, change_thread, no_answers, passed, put_thread, thread_id, with_registers, with_state}
 use Rattle.machine_model.specs.State.Views.{stored, timer_set}
 use Rattle.machine_model.specs.Stepping.Acts.{call_by, executes, is_call_served, is_served}
-use Rattle.machine_model.specs.Stepping.Events.{killed, killed_if, picked, raised, raised_if}
-use Rattle.machine_model.specs.Stepping.Interrupts.{cursor_after, delivered, delivered_lowest, handler_started, is_free_for_interrupt, lowest_pending, pended}
+use Rattle.machine_model.specs.Stepping.Interrupts.{cursor_after, delivered, handler_started, pended}
 use Rattle.machine_model.specs.Stepping.Reservations.{unreserved}
-use Rattle.machine_model.specs.Stepping.Step.{Recorded, acted, after, console_told, counted, ends_handler, executed, performed, record_of, step}
+use Rattle.machine_model.specs.Stepping.Step.{Recorded, acted, after, console_told, counted, executed, record_of, step}
 use Rattle.machine_model.specs.Stepping.Timer.{is_due, stands_after_irq, timed, timed_if, timer_change, with_irq, with_irq_if}
 use Rattle.machine_model.proofs.Runs.KeptLemmas.{matched_at}
 use Rattle.machine_model.proofs.Runs.TimerLemmas.{timed_raised}
-use Rattle.machine_model.proofs.StepLemmas.{no_step}
-use Rattle.machine_laws.proofs.Stepping.StepKindLemmas.{Executes, HandlerEnds, StepKind, ThreadEnds, acted_as_executed, is_call, kind_of}
-use Rattle.machine_laws.proofs.Threading.ThreadStepLemmas.{actor_ready, then_acted, turned_to}
+use Rattle.machine_laws.proofs.Stepping.StepKindLemmas.{is_call}
+use Rattle.machine_laws.proofs.Threading.ThreadStepLemmas.{actor_ready, turned_to}
 use Rattle.call_effects.proofs.ServedLemmas.{OfServed}
+use Rattle.confidentiality_laws.proofs.CauseCaseLemmas.{ActCase, CauseCase, EndCase, EndsHandler, EndsThread, Instructs, IsLast, Kills, LeavesOthers, Raises, Rests, StartCase, Starts}
+use Rattle.confidentiality_laws.proofs.CauseCaseLemmas.{StartsNone, Steps, case_of, end_of, start_of}
 use Rattle.transcript_laws.proofs.Answering.DueLemmas.{timed_holds}
 use Rattle.transcript_laws.specs.Answered.{IsAnswerTo, IsSenderAnswered, IsUnserved, SendersAreAnswered}
 use Rattle.transcript_laws.specs.Following.{keeping}
 use Rattle.transcript_laws.specs.Serving.{AllAreServed, DiesIn, Ends, Founded, IsDelivery, IsDestroyed, Lists, ServerStep, Stays, told_by}
-use Rattle.transcript_laws.proofs.Following.StepLemmas.{numbered, step_is, stepped}
+use Rattle.transcript_laws.proofs.Following.StepLemmas.{numbered}
 use Rattle.transcript_laws.proofs.Serving.AtServerLemmas.{AreMeant, IsAnswerBy, IsSendersAnswer, IsTold, LosesServer, Serves, answer_like}
 use Rattle.transcript_laws.proofs.Serving.AtServerLemmas.{both_meant, call_turned, meant_like, none_meant, refused_meant, step_like}
 use Rattle.transcript_laws.proofs.Serving.AtServerLemmas.{step_to}
 use Rattle.transcript_laws.proofs.Serving.ArrivalLemmas.{death_ends, death_serves, senders_lose}
 use Rattle.transcript_laws.proofs.Serving.RowLemmas.{not_cursor, served_serves}
+use Rattle.call_effects.proofs.ServedLemmas.{done}
 
 -- ---- what is told
 
@@ -189,31 +190,22 @@ module _ (cause : Cause) where
   dies_does : (m : Machine) → Matched m → (n : Machine) (pid : Pid) → n.servers ≡ m.servers → Does cause m (settled (death pid n))
   dies_does m h n pid e = death_does m n pid (death pid n).answers e (death_answers_meant m h n pid e)
 
-  handler_does : (m n : Machine) → n.servers ≡ m.servers → (pid : Pid) (k : ℕ) (o : Option Claim) (cursor : ThreadId)
-      → Does cause m (settled (record (handler_started n pid k o) { machine = record (handler_started n pid k o).machine { cursor = cursor } }))
-  handler_does m n e pid k None cursor =
+  started_does : (m n : Machine) → n.servers ≡ m.servers → (pid : Pid) (change : Change) → StartCase pid n change → (cursor : ThreadId)
+      → Does cause m (settled (record change { machine = record change.machine { cursor = cursor } }))
+  started_does m n e pid _ StartsNone cursor =
       change_does m (record (only n) { machine = record n { cursor = cursor } }) (λ j. Stays (ap (λ (s : ℕ → Option Server). s j) e)) (none_meant cause m n.servers)
-  handler_does m n e pid k (Some claim) cursor =
+  started_does m n e pid _ (Starts k claim q) cursor =
       let change = handler_started n pid k (Some claim) in
       change_does m (record change { machine = record change.machine { cursor = cursor } }) (λ j. Stays (ap (λ (s : ℕ → Option Server). s j) e)) (none_meant cause m n.servers)
 
-  lowest_does : (m n : Machine) → n.servers ≡ m.servers → (pid : Pid) (o : Option ℕ) (cursor : ThreadId)
-      → Does cause m (settled (record (delivered_lowest n pid o) { machine = record (delivered_lowest n pid o).machine { cursor = cursor } }))
-  lowest_does m n e pid None cursor = handler_does m n e pid 0 None cursor
-  lowest_does m n e pid (Some k) cursor = handler_does m n e pid k (n.claims k) cursor
-
   delivered_does : (m n : Machine) → n.servers ≡ m.servers → (pid : Pid) → Does cause m (settled (delivered pid n))
-  unfolding delivered
-  delivered_does m n e pid =
-      lowest_does m n e pid (if is_free_for_interrupt n pid then lowest_pending n pid else None)
-      (delivered_lowest n pid (if is_free_for_interrupt n pid then lowest_pending n pid else None)).machine.cursor
+  delivered_does m n e pid = started_does m n e pid (delivered pid n) (start_of pid n) (delivered pid n).machine.cursor
 
   pended_does : (m n : Machine) → n.servers ≡ m.servers → (k : ℕ) (claim : Claim) → Does cause m (settled (pended k claim n))
-  unfolding delivered
   pended_does m n e k claim =
-      let raised : Machine = record n { pending = put_at nat_eq n.pending k true } in
-      let o = if is_free_for_interrupt raised claim.pid then lowest_pending raised claim.pid else None in
-      lowest_does m raised e claim.pid o (cursor_after (delivered_lowest raised claim.pid o).delivery (delivered_lowest raised claim.pid o).machine.cursor)
+      let change = delivered claim.pid (record n { pending = put_at nat_eq n.pending k true }) in
+      started_does m (record n { pending = put_at nat_eq n.pending k true }) e claim.pid change
+      (start_of claim.pid (record n { pending = put_at nat_eq n.pending k true })) (cursor_after change.delivery change.machine.cursor)
 
   -- ---- a step
 
@@ -285,16 +277,13 @@ module _ (cause : Cause) where
         go false p q = absurd (none-some words q)
 
     thread_end_does : (a0 : ℕ) → Does cause m (after (End who) (settled (thread_ended who a0 n)))
-    unfolding thread_ended
-    thread_end_does a0 = first_does m (End who) (settled (thread_ended who a0 n)) (tt, tt) (go (has_threads (put_thread who None n) who.pid))
+    thread_end_does a0 = first_does m (End who) (settled (thread_ended who a0 n)) (tt, tt) (by (thread_ended who a0 n) (end_of who a0 n))
       where
-        go : (b : Bool) → Does cause m (settled (record (end_with_last_thread b who.pid (put_thread who None n)) {
-          answers = both_answers (joiners_answered n who a0) (end_with_last_thread b who.pid (put_thread who None n)).answers;
-        }))
-        go true =
+        by : (change : Change) → EndCase who a0 n change → Does cause m (settled change)
+        by _ LeavesOthers =
             change_does m (record (only (put_thread who None n)) { answers = both_answers (joiners_answered n who a0) no_answers }) (λ k. Stays refl)
             (both_meant cause m m.servers (joiners_answered n who a0) no_answers (joiners_meant a0 m.servers) (none_meant cause m m.servers))
-        go false =
+        by _ IsLast =
             death_does m (put_thread who None n) who.pid (both_answers (joiners_answered n who a0) (death who.pid (put_thread who None n)).answers) refl
             (both_meant cause m (death who.pid (put_thread who None n)).machine.servers (joiners_answered n who a0) (death who.pid (put_thread who None n)).answers
             (joiners_meant a0 (death who.pid (put_thread who None n)).machine.servers) (death_answers_meant m h (put_thread who None n) who.pid refl))
@@ -305,19 +294,10 @@ module _ (cause : Cause) where
         first_does m (End who) (settled (delivered who.pid (change_thread (thread_id who.pid 1) (with_state Idle) n))) (tt, tt)
         (delivered_does m (change_thread (thread_id who.pid 1) (with_state Idle) n) refl who.pid)
 
-    acted_does : StepKind m who → (t : Thread) × (m.threads who ≡ Some t) × Does cause m (acted n t)
-    acted_does (Executes t x there e) = (t, there, subst (Does cause m) (sym (acted_as_executed m who t x e)) (executed_does t there x e))
-    acted_does (ThreadEnds t there e) = (
-      t,
-      there,
-      subst (λ b. Does cause m (then_acted m who [] t b (ends_handler who t.pc) (performed n who t).executed)) (sym e) (thread_end_does (reg_at t.regs 10)),
-    )
-    acted_does (HandlerEnds t there low e) = (
-      t,
-      there,
-      subst (λ b. Does cause m (then_acted m who [] t b (ends_handler who t.pc) (performed n who t).executed)) (sym low)
-          (subst (λ b. Does cause m (then_acted m who [] t false b (performed n who t).executed)) (sym e) handler_end_does),
-    )
+    act_does : (t : Thread) → m.threads who ≡ Some t → (done : Told) → ActCase m who t done → Does cause m done
+    act_does t there _ (Instructs x e) = executed_does t there x e
+    act_does t there _ (EndsThread e) = thread_end_does (reg_at t.regs 10)
+    act_does t there _ (EndsHandler e) = handler_end_does
 
   -- the timer takes no record away
   pub timed_tells : (what : What) (done : Told) → Contains done.told what → Contains (timed done).told what
@@ -373,34 +353,20 @@ module _ (cause : Cause) where
     told = does.told;
   }
 
-step_so : (m : Machine) → Matched m → DoesSo ByStep m (step m)
-step_so m h = go (actor m) refl
-  where
-    go : (o : Option ThreadId) → actor m ≡ o → DoesSo ByStep m (step m)
-    go None e = subst (DoesSo ByStep m) (sym (no_step m e)) (nothing_so ByStep m m refl)
-    go (Some who) e =
-        let t = acted_does ByStep refl m h who e (kind_of m who e) in
-        subst (DoesSo ByStep m) (sym (step_is m who e))
-        (subst (λ o. DoesSo ByStep m (stepped m who o)) (sym t.1)
-        (recorded_so ByStep m (m.steps + 1) (timed (counted (turned_to who m) (Some t.0) (acted (turned_to who m) t.0)))
-        (timed_does ByStep m (counted (turned_to who m) (Some t.0) (acted (turned_to who m) t.0))
-        (counted_does ByStep m (turned_to who m) t.0 (acted (turned_to who m) t.0) t.2))))
-
 cause_so : (cause : Cause) (m : Machine) → Matched m → DoesSo cause m (record { machine = caused cause m; records = records_by cause m })
-unfolding picked raised killed turn
-cause_so ByStep m h = step_so m h
-cause_so (ByPick who) m h = nothing_so (ByPick who) m _ refl
-cause_so (ByIrq k) m h = go (m.claims k)
+cause_so cause m h = by cause (record { machine = caused cause m; records = records_by cause m }) (case_of cause m)
   where
-    go : (o : Option Claim) → DoesSo (ByIrq k) m (raised_if k o (unreserved m))
-    go None = nothing_so (ByIrq k) m (unreserved m) refl
-    go (Some claim) = recorded_so (ByIrq k) m m.steps (settled (pended k claim (unreserved m))) (pended_does (ByIrq k) m (unreserved m) refl k claim)
-cause_so (ByKill pid) m h = go (m.process pid.0).alive
-  where
-    go : (b : Bool) → DoesSo (ByKill pid) m (killed_if b pid (unreserved m))
-    go false = nothing_so (ByKill pid) m (unreserved m) refl
-    go true = recorded_so (ByKill pid) m m.steps (settled (death pid (unreserved m))) (dies_does (ByKill pid) m h (unreserved m) pid refl)
-cause_so ByTurn m h = nothing_so ByTurn m (turn m) refl
+    by : (cause : Cause) (next : Recorded) → CauseCase m cause next → DoesSo cause m next
+    by _ _ (Rests cause cursor reserved) = nothing_so cause m (record m { cursor = cursor; reserved = reserved }) refl
+    by _ _ (Steps who t acts there case) =
+        let done = acted (turned_to who m) t in
+        let does = act_does ByStep refl m h who acts t there done case in
+        recorded_so ByStep m (m.steps + 1) (timed (counted (turned_to who m) (Some t) done))
+        (timed_does ByStep m (counted (turned_to who m) (Some t) done) (counted_does ByStep m (turned_to who m) t done does))
+    by _ _ (Raises k claim e) =
+        recorded_so (ByIrq k) m m.steps (settled (pended k claim (unreserved m))) (pended_does (ByIrq k) m (unreserved m) refl k claim)
+    by _ _ (Kills pid e) =
+        recorded_so (ByKill pid) m m.steps (settled (death pid (unreserved m))) (dies_does (ByKill pid) m h (unreserved m) pid refl)
 
 pub all_served : AllAreServed
 all_served cause m h =

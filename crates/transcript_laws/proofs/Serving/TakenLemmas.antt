@@ -41,9 +41,10 @@ use Rattle.call_effects.proofs.FootprintLemmas.{calls_leave_the_rest}
 use Rattle.call_effects.proofs.MeantLemmas.{calls_meant}
 use Rattle.call_effects.proofs.RowLemmas.{OfRows, ◌also◌, of_row}
 use Rattle.call_effects.proofs.ServedLemmas.{OfPlan, OfServed, done, of_plan}
+use Rattle.confidentiality_laws.proofs.CauseCaseLemmas.{step_is}
 use Rattle.transcript_laws.specs.Serving.{IsReceiver, is_receive, told_by}
 use Rattle.transcript_laws.proofs.AtServers.GivenUpLemmas.{of_served, served_turned}
-use Rattle.transcript_laws.proofs.Following.StepLemmas.{numbered, step_is, stepped}
+use Rattle.transcript_laws.proofs.Following.StepLemmas.{numbered}
 use Rattle.transcript_laws.proofs.Serving.ServedStepLemmas.{timed_tells}
 
 -- ---- what a receive answers
@@ -166,9 +167,8 @@ module _ (m : Machine) (h : Matched m) (who : ThreadId) (w : List ℕ) (acts : a
 
   step_told : (t : Thread) → m.threads who ≡ Some t → told_by ByStep m ≡ (timed (counted n (Some t) (acted n t))).told
   step_told t there =
-      ap (λ (r : Recorded). map (λ (rec : Rec). rec.what) r.records) (step_is m who acts)
-      ∙ (ap (λ o. map (λ (rec : Rec). rec.what) (stepped m who o).records) there
-      ∙ numbered (m.steps + 1) (timed (counted n (Some t) (acted n t))).told)
+      ap (λ (r : Recorded). map (λ (rec : Rec). rec.what) r.records) (step_is m who t acts there)
+      ∙ numbered (m.steps + 1) (timed (counted n (Some t) (acted n t))).told
 
   step_tells : Contains (told_by ByStep m) (Reply who (message_words x))
   step_tells = go (kind_of m who acts)

@@ -1,0 +1,6 @@
+use Rattle.confidentiality_laws.proofs.Carrying.VerdictLemmas.{calls_depend}
+use Rattle.confidentiality_laws.proofs.calls.calls_depend_on_their_view.Goals as goal
+
+-- src/calls.rt
+pub returns : goal.returns
+returns c = calls_depend
