@@ -8,6 +8,7 @@ pub mod DeathLemmas
 pub mod EndedLemmas
 pub mod GivenLemmas
 pub mod HeldLemmas
+pub mod KeptTurnLemmas
 pub mod LoanCallLemmas
 pub mod MemoryLemmas
 pub mod OrphanLemmas
