@@ -6,6 +6,8 @@ pub mod ConnectingStepLemmas
 pub mod CountLemmas
 pub mod DeathLemmas
 pub mod EndedLemmas
+pub mod FreedCallLemmas
+pub mod FreedLemmas
 pub mod GivenLemmas
 pub mod HeldLemmas
 pub mod KeptTurnLemmas
