@@ -6,8 +6,11 @@ pub mod ConnectingStepLemmas
 pub mod CountLemmas
 pub mod DeathLemmas
 pub mod EndedLemmas
+pub mod FreedCallLemmas
+pub mod FreedLemmas
 pub mod GivenLemmas
 pub mod HeldLemmas
+pub mod KeptTurnLemmas
 pub mod LoanCallLemmas
 pub mod MemoryLemmas
 pub mod OrphanLemmas

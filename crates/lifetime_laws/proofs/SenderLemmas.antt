@@ -1,39 +1,42 @@
 -- The sender of a message at a prompt server waits for a bounded number of steps.
-use Rattle.std.proofs.Common.{◌≡◌, ◌≢◌, ℕ, zero, suc, ◌+◌, ◌-◌, ◌<◌, ◌≤◌, ◌⊎◌, inl, inr, Bool, true, false, List, [], ◌∷◌, ◌++◌, drop, filter, Option, Some, None, refl, sym, ap, ◌∙◌, subst, arith}
-use Rattle.std.specs.Prelude.{◌&&◌, if◌then◌else◌, is_some, not}
-use Rattle.std.specs.List.{All, list_any}
-use Rattle.std.specs.Option.{option_map_or}
-use Rattle.std.proofs.lemmas.Bool.{and_parts, cases_lt, eqb-true, false≢true, or_parts}
-use Rattle.std.proofs.lemmas.List.Elements.{All-head}
-use Rattle.std.proofs.lemmas.Option.{none-some, same_Some}
+use Rattle.std.proofs.Common.{◌≡◌, ℕ, zero, suc, ◌+◌, ◌-◌, ◌<◌, ◌≤◌, ◌⊎◌, inl, inr, Bool, true, false, List, [], ◌∷◌, ◌++◌, map, Option, Some, None, refl, sym, ap, ◌∙◌, subst, arith}
+use Rattle.std.specs.Prelude.{◌&&◌}
+use Rattle.std.specs.List.{All, Contains, list_any}
+use Rattle.std.proofs.lemmas.Bool.{cases_lt, false≢true, or_parts}
 use Rattle.xk_base.specs.declared.ids.Number.{Number}
-use Rattle.xk_base.specs.declared.ids.Pid.{Pid}
 use Rattle.xk_base.specs.declared.ids.ThreadId.{ThreadId}
 use Rattle.xk_base.specs.declared.messages.Message.{Message}
-use Rattle.xk_base.specs.Calls.Kinds.{is_answered}
-use Rattle.xk_base.specs.Tables.Circle.{same_thread}
-use Rattle.machine_laws.proofs.Messaging.FilterLemmas.{filter_others}
+use Rattle.xk_base.specs.declared.records.Rec.{Rec}
+use Rattle.xk_base.specs.declared.records.What.{What}
+use Rattle.xk_base.specs.declared.records.What.TheVariants.{Reply}
+use Rattle.confidentiality_laws.specs.TwoRuns.{records_by}
 use Rattle.machine_laws.proofs.Stepping.EveryStepLemmas.{every_run_keeps}
-use Rattle.machine_model.specs.Messaging.MessageCounts.{HasIf, HasNone, HasOne, count_at, count_in}
-use Rattle.machine_model.specs.Messaging.Messages.{is_of_number, is_sent_by, oldest, with_queued, with_received, without_held, without_oldest}
-use Rattle.machine_model.specs.Runs.Matched.{IsQueueable, Matched, is_sent_as, waits_for}
-use Rattle.machine_model.specs.Runs.Moments.{Cause, IsRun, Moment, state_at}
+use Rattle.machine_model.specs.Messaging.MessageCounts.{HasIf, HasOne, count_at, count_in}
+use Rattle.machine_model.specs.Messaging.Messages.{is_of_number, is_sent_by}
+use Rattle.machine_model.specs.Runs.Matched.{Matched, is_sent_as, waits_for}
+use Rattle.machine_model.specs.Runs.Moments.{IsRun, Moment, state_at}
 use Rattle.machine_model.specs.State.Machine.{Machine, Server}
-use Rattle.machine_model.specs.State.Servers.{messages_of}
 use Rattle.machine_model.proofs.Matching.CountLemmas.{count_in-append, one_if}
-use Rattle.machine_model.proofs.Matching.OneMessageLemmas.{same_or_not}
-use Rattle.transcript_laws.specs.AtServers.{ByReturn, ByServer, EndsAt, IsAt}
+use Rattle.transcript_laws.specs.Answered.{IsSenderAnswered}
+use Rattle.transcript_laws.specs.AtServers.{IsAt}
 use Rattle.transcript_laws.specs.Following.{Lacks, keeping}
-use Rattle.transcript_laws.specs.Serving.{DiesIn, Ends, Forwards, Founded, IsReturned, ListStep, Lists, LosesSender}
-use Rattle.transcript_laws.specs.Serving.{Queues as QueuesOne, Receives, Returns, ServerStep, Stays, Takes, told_by}
+use Rattle.transcript_laws.specs.Serving.{DiesIn, told_by}
 use Rattle.transcript_laws.proofs.AtServers.PlaceLemmas.{lacks_parts}
-use Rattle.transcript_laws.proofs.Serving.ServedStepLemmas.{all_served}
+use Rattle.transcript_laws.proofs.Serving.ServedStepLemmas.{senders_answered}
+use Rattle.transcript_laws.proofs.Serving.TakenLemmas.{told_record}
 use Rattle.transcript_laws.proofs.Turning.FairLemmas.{Caused, Ended, Link, link}
-use Rattle.lifetime_laws.specs.Prompt.{IsAnsweredIn, IsAnsweredInTime, IsServing, StaysAt, Workers, deadline}
+use Rattle.lifetime_laws.specs.Prompt.{ByDeath, ByReply, EndsWait, IsAnsweredIn, IsAnsweredInTime, IsServing, StaysAt, Workers, deadline}
 use Rattle.lifetime_laws.specs.Scheduling.{AreStepsFair}
+use Rattle.lifetime_laws.proofs.FreedLemmas.{freed_is_told}
 use Rattle.lifetime_laws.proofs.PromptLemmas.{leaves_in_time}
-use Rattle.lifetime_laws.proofs.WaitingAskedLemmas.{Has, left_has, received_has, with_newer}
 use Rattle.lifetime_laws.proofs.WorkLemmas.{moment_counts}
+
+-- what holds of each record holds of whatever is told
+all_told : (P : What → Type 0) (records : List Rec) → All (λ (rec : Rec). P rec.what) records → (what : What)
+    → Contains (map (λ (rec : Rec). rec.what) records) what → P what
+all_told P [] h what at = absurd (let low : at.0 < 0 = at.1 in omega arith)
+all_told P (rec ∷ records) h what (zero, low, is) = subst P is (h 0 rec (omega arith))
+all_told P (rec ∷ records) h what (suc j, low, is) = all_told P records (λ i x l. h (suc i) x (omega arith)) what (j, omega arith, is)
 
 module _ (who : ThreadId) (number : Number) where
   abbrev sent : Message → Bool
@@ -65,116 +68,6 @@ module _ (who : ThreadId) (number : Number) where
 
   waits_for_one : (m : Machine) → Matched m → waits_for m.threads who number ≡ true → HasOne m.servers sent
   waits_for_one m h e = subst (λ b. HasIf b m.servers sent) e (h.body.senders.senders who number)
-
-  waits_for_none : (m : Machine) → Matched m → waits_for m.threads who number ≡ false → HasNone m.servers sent
-  waits_for_none m h e = subst (λ b. HasIf b m.servers sent) e (h.body.senders.senders who number)
-
-  -- ---- why its wait ends
-
-  module _ (n : ℕ) (cause : Cause) (m next : Machine) (h : Matched m) (stays : (other : ℕ) → IsAt number other next → other ≡ n) where
-    abbrev Why : Type 0
-    Why = EndsAt number n cause m ⊎ DiesIn (told_by cause m) who.pid
-
-    -- it has it still
-    still : (before after now : Server) → after ≡ now → 1 ≤ count_in sent (messages_of now) → count_in sent (messages_of after) ≡ 0 → Why
-    still before after now is has none =
-        let same : count_in sent (messages_of after) ≡ count_in sent (messages_of now) = ap (λ (s : Server). count_in sent (messages_of s)) is in
-        absurd (omega arith)
-
-    without_other : (k : Number) (before : Server) → k.0 ≢ number.0 → Has sent (messages_of before)
-        → Has sent (messages_of (without_held k before))
-    without_other k before other has =
-        let was : count_in sent (before.queued ++ before.held) ≡ count_in sent before.queued + count_in sent before.held =
-        count_in-append sent before.queued before.held in
-        let now : count_in sent (before.queued ++ filter (λ x. not (is_of_number k x)) before.held)
-        ≡ count_in sent before.queued + count_in sent (filter (λ x. not (is_of_number k x)) before.held) =
-        count_in-append sent before.queued (filter (λ x. not (is_of_number k x)) before.held) in
-        let same : count_in sent (filter (λ x. not (is_of_number k x)) before.held) ≡ count_in sent before.held =
-        filter_others sent (λ x. not (is_of_number k x)) kept before.held in
-        omega arith
-      where
-        kept : (x : Message) → sent x ≡ true → not (is_of_number k x) ≡ true
-        kept x e = go (is_of_number k x) refl
-          where
-            go : (b : Bool) → is_of_number k x ≡ b → not b ≡ true
-            go true f =
-                let its : x.number.0 ≡ number.0 = eqb-true x.number.0 number.0 (and_parts (is_of_number number x) (is_sent_by who x) e).0 in
-                let also : x.number.0 ≡ k.0 = eqb-true x.number.0 k.0 f in
-                absurd (other (sym also ∙ its))
-            go false f = refl
-
-    taken_has : (before : Server) (x : Message) → oldest before.queued ≡ Some x → All IsQueueable before.queued
-        → Has sent (messages_of before)
-        → Has sent (messages_of (with_received x (without_oldest before)))
-    unfolding count_in
-    taken_has before x first queueable has = go before.queued first queueable has
-      where
-        by_answer : (y : Message) (ys : List Message) → IsQueueable y → (b : Bool) → is_answered y.kind ≡ b
-            → Has sent ((y ∷ ys) ++ before.held) → Has sent (ys ++ (if b then before.held ++ y ∷ [] else before.held))
-        by_answer y ys q true e has =
-            let was : count_in sent (ys ++ before.held) ≡ count_in sent ys + count_in sent before.held = count_in-append sent ys before.held in
-            let outer : count_in sent (ys ++ (before.held ++ y ∷ [])) ≡ count_in sent ys + count_in sent (before.held ++ y ∷ []) =
-            count_in-append sent ys (before.held ++ y ∷ []) in
-            let inner : count_in sent (before.held ++ y ∷ []) ≡ count_in sent before.held + (one_if (sent y) + 0) =
-            count_in-append sent before.held (y ∷ []) in
-            let whole : 1 ≤ one_if (sent y) + count_in sent (ys ++ before.held) = has in
-            omega (arith, was, outer, inner, whole)
-        by_answer y ys q false e has =
-            let whole : 1 ≤ one_if (sent y) + count_in sent (ys ++ before.held) = has in
-            let unsent : one_if (sent y) ≡ 0 = nobody y.sender (q ∙ e) in
-            omega (arith, whole, unsent)
-          where
-            nobody : (o : Option ThreadId) → is_some o ≡ false
-                → one_if (is_of_number number y && option_map_or (same_thread who) o false) ≡ 0
-            nobody None f = go (is_of_number number y)
-              where
-                go : (b : Bool) → one_if (b && false) ≡ 0
-                go true = refl
-                go false = refl
-            nobody (Some other) f = absurd (false≢true (sym f))
-
-        go : (xs : List Message) → oldest xs ≡ Some x → All IsQueueable xs → Has sent (xs ++ before.held)
-            → Has sent (drop 1 xs ++ (if is_answered x.kind then before.held ++ x ∷ [] else before.held))
-        go [] f q has = absurd (none-some x f)
-        go (y ∷ ys) f q has =
-            subst (λ (z : Message). Has sent (ys ++ (if is_answered z.kind then before.held ++ z ∷ [] else before.held))) (same_Some y x f)
-            (by_answer y ys (All-head IsQueueable y ys q) (is_answered y.kind) refl has)
-
-    list_freed : (before after : Server) → m.servers n ≡ Some before → ListStep n cause m next (DiesIn (told_by cause m)) before after
-        → Has sent (messages_of before) → count_in sent (messages_of after) ≡ 0 → Why
-    list_freed before after there (QueuesOne x a is) has none =
-        still before after (with_queued x before) is (with_newer sent before.queued (x ∷ []) before.held has) none
-    list_freed before after there (Receives x to a empty own waits is) has none =
-        still before after (with_received x before) is (received_has sent x before has) none
-    list_freed before after there (Takes x to first own r is) has none =
-        still before after (with_received x (without_oldest before)) is
-        (taken_has before x first (h.body.senders.queued n before there) has) none
-    list_freed before after there (Returns k r is) has none = elim (same_or_not k.0 number.0) [
-      | inl same ↦ inl (ByReturn before there (subst (λ j. IsReturned j before cause m) (λ i. record { 0 = same i }) r))
-      | inr other ↦ still before after (without_held k before) is (without_other k before other has) none
-    ]
-    list_freed before after there (Forwards to x passed from kept is) has none = elim (same_or_not x.number.0 number.0) [
-      | inl same ↦
-          let equal : x.number ≡ number = λ i. record { 0 = same i } in
-          absurd (passed.apart (stays to (subst (λ j. keeping j (next.servers to) ≢ Lacks) equal kept) ∙ sym from))
-      | inr other ↦ still before after (without_held x.number before) is (without_other x.number before other has) none
-    ]
-    list_freed before after there (LosesSender pid dies is) has none = elim (same_or_not who.pid.0 pid.0) [
-      | inl same ↦ inr (subst (DiesIn (told_by cause m)) (λ i. record { 0 = sym same i }) dies)
-      | inr other ↦ still before after _ is (left_has pid who (λ e. other (ap (λ (p : Pid). p.0) e)) number before has) none
-    ]
-
-    freed : ServerStep n cause m next (DiesIn (told_by cause m)) → 1 ≤ count_at sent (m.servers n) → count_at sent (next.servers n) ≡ 0
-        → Why
-    freed (Stays e) has none =
-        let same : count_at sent (next.servers n) ≡ count_at sent (m.servers n) = ap (count_at sent) e in
-        absurd (omega arith)
-    freed (Founded server was now queued held) has none =
-        let same : count_at sent (m.servers n) ≡ 0 = ap (count_at sent) was in
-        absurd (omega arith)
-    freed (Ends server there e why) has none = inl (ByServer server there why)
-    freed (Lists before after was now step) has none =
-        list_freed before after was step (subst (λ o. 1 ≤ count_at sent o) was has) (sym (ap (count_at sent) now) ∙ none)
 
   -- ---- over a run
 
@@ -245,10 +138,36 @@ module _ (who : ThreadId) (number : Number) where
         go false now later = inr (record { i = i; from = p; until = omega arith; waited = waits; freed_then = now })
 
     abbrev Answered : Type 0
-    Answered = (i : ℕ) × (first ≤ i) × (i < last) × IsAnsweredIn who number n start moments i × ((at (suc i)).steps ≤ bound)
+    Answered = (i : ℕ) × (first ≤ i) × (i < last) × IsAnsweredIn who number start moments i × ((at (suc i)).steps ≤ bound)
+
+    -- what is told in the moment that frees it
+    ends_by : (i : ℕ) → Waits i → waits_for (at (suc i)).threads who number ≡ false → EndsWait who number start moments i
+    ends_by i waits freed = go (link start moments run i)
+      where
+        go : Link start moments i → EndsWait who number start moments i
+        go (Ended none e) =
+            absurd (false≢true (sym freed ∙ (ap (λ (m : Machine). waits_for m.threads who number) e ∙ waits)))
+        go (Caused moment there e) =
+            by (freed_is_told moment.cause (at i) (matched i) who number waits (sym (ap (λ (m : Machine). waits_for m.threads who number) e) ∙ freed))
+          where
+            by : ((words : List ℕ) × Contains (told_by moment.cause (at i)) (Reply who words)) ⊎ DiesIn (told_by moment.cause (at i)) who.pid
+                → EndsWait who number start moments i
+            by (inr dies) = ByDeath moment there dies
+            by (inl (words, told)) =
+                let place = told_record (records_by moment.cause (at i)) (Reply who words) told in
+                ByReply words
+                (record { moment = moment; there = there; who = who; place = place.0; record_there = place.1; told = place.2; is = place.3 }) refl
+                (all_told (IsSenderAnswered moment.cause (at i)) (records_by moment.cause (at i)) (senders_answered moment.cause (at i) (matched i))
+                (Reply who words) told number waits)
 
     answered : Frees → Answered
-    answered f = (f.i, f.from, f.until, by_link (link start moments run f.i), soon)
+    answered f = (
+      f.i,
+      f.from,
+      f.until,
+      record { waited = waits; freed = f.freed_then; ends = ends_by f.i waits f.freed_then },
+      soon,
+    )
       where
         from : first ≤ f.i
         from = f.from
@@ -264,21 +183,6 @@ module _ (who : ThreadId) (number : Number) where
             let less : (at f.i).steps < bound = in_time f.i from (omega arith) f.waited in
             let one : (at (suc f.i)).steps ≤ (at f.i).steps + 1 = moment_counts start moments run f.i in
             omega arith
-
-        by_link : Link start moments f.i → IsAnsweredIn who number n start moments f.i
-        by_link (Caused moment there e) = record {
-          moment = moment;
-          there = there;
-          waited = waits;
-          freed = f.freed_then;
-          ends = freed n moment.cause (at f.i) (at (suc f.i)) (matched f.i) (λ other some. stays (suc f.i) other (omega arith) (omega arith) some)
-              (subst (λ x. ServerStep n moment.cause (at f.i) x (DiesIn (told_by moment.cause (at f.i)))) (sym e)
-              ((all_served moment.cause (at f.i) (matched f.i)).servers n))
-              (sent_there f.i from (omega arith) waits)
-              (waits_for_none (at (suc f.i)) (matched (suc f.i)) f.freed_then n);
-        }
-        by_link (Ended none e) =
-            absurd (false≢true (sym f.freed_then ∙ (ap (λ (m : Machine). waits_for m.threads who number) e ∙ waits)))
 
     by_search : (gap : ℕ) → first + gap ≡ last → Waits first → bound ≤ (at last).steps → Answered
     by_search gap e now enough = go (search gap first e (omega arith) (λ j a b. subst Waits (omega arith) now))

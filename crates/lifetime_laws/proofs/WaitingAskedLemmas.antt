@@ -24,10 +24,10 @@ use Rattle.lifetime_laws.specs.Waiting.{IsAskedInside}
 
 -- ---- more messages count as many or more
 
-abbrev pub Has : (Message → Bool) → List Message → Type 0
+abbrev Has : (Message → Bool) → List Message → Type 0
 Has test xs = 1 ≤ count_in test xs
 
-pub with_newer : (test : Message → Bool) (xs ys zs : List Message) → Has test (xs ++ zs) → Has test ((xs ++ ys) ++ zs)
+with_newer : (test : Message → Bool) (xs ys zs : List Message) → Has test (xs ++ zs) → Has test ((xs ++ ys) ++ zs)
 with_newer test xs ys zs has =
     let before : count_in test (xs ++ zs) ≡ count_in test xs + count_in test zs = count_in-append test xs zs in
     let outer : count_in test ((xs ++ ys) ++ zs) ≡ count_in test (xs ++ ys) + count_in test zs = count_in-append test (xs ++ ys) zs in
@@ -41,7 +41,7 @@ with_behind test xs ys zs has =
     let inner : count_in test (zs ++ ys) ≡ count_in test zs + count_in test ys = count_in-append test zs ys in
     omega arith
 
-pub received_has : (test : Message → Bool) (message : Message) (server : Server) → Has test (messages_of server)
+received_has : (test : Message → Bool) (message : Message) (server : Server) → Has test (messages_of server)
     → Has test (messages_of (with_received message server))
 received_has test message server has = go (is_answered message.kind)
   where
@@ -89,7 +89,7 @@ module _ (by : Pid) (id : ThreadId) (apart : id.pid ≢ by) (number : Number) wh
   kept_held : (x : Message) → is_sent_as id number (senderless_from by x) ≡ is_sent_as id number x
   kept_held x = ap (λ b. is_of_number number x && b) (kept_sender x.sender)
 
-  pub left_has : (server : Server) → Has (is_sent_as id number) (messages_of server)
+  left_has : (server : Server) → Has (is_sent_as id number) (messages_of server)
       → Has (is_sent_as id number) (messages_of (with_senderless_from by (without_queued_from by server)))
   left_has server has =
       let before = count_in-append (is_sent_as id number) server.queued server.held in

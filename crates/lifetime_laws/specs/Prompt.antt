@@ -1,5 +1,5 @@
 -- A server that is prompt, and how soon the sender of a message is answered by it.
-use Rattle.std.specs.Prelude.{◌≡◌, ℕ, zero, suc, ◌+◌, ◌*◌, ◌<◌, ◌≤◌, ◌⊎◌, true, false, if◌then◌else◌, List, [], ◌∷◌, slice_get, Some}
+use Rattle.std.specs.Prelude.{◌≡◌, ℕ, zero, suc, ◌+◌, ◌*◌, ◌<◌, ◌≤◌, true, false, if◌then◌else◌, List, [], ◌∷◌, slice_get, Some}
 use Rattle.std.specs.Option.{option_map_or}
 use Rattle.xk_base.specs.declared.ids.Number.{Number}
 use Rattle.xk_base.specs.declared.ids.ThreadId.{ThreadId}
@@ -10,7 +10,9 @@ use Rattle.machine_model.specs.Runs.Matched.{waits_for}
 use Rattle.machine_model.specs.Runs.Moments.{Moment, state_at}
 use Rattle.machine_model.specs.State.Machine.{Machine, Server}
 use Rattle.machine_model.specs.State.Order.{ready_at}
-use Rattle.transcript_laws.specs.AtServers.{EndsAt, IsAt}
+use Rattle.transcript_laws.specs.Answered.{IsAnswerTo}
+use Rattle.transcript_laws.specs.AtServers.{IsAt}
+use Rattle.transcript_laws.specs.Contents.{RepliesAt}
 use Rattle.transcript_laws.specs.Following.{Holds, keeping}
 use Rattle.transcript_laws.specs.Order.{WaitsAt}
 use Rattle.transcript_laws.specs.Serving.{DiesIn, told_by}
@@ -108,23 +110,28 @@ abbrev pub StaysAt : Number → ℕ → Machine → List Moment → ℕ → ℕ 
 StaysAt number n start moments first last =
     (i other : ℕ) → first ≤ i → i ≤ last → IsAt number other (state_at start moments i) → other ≡ n
 
--- The wait of the thread for the answer ends in moment i: its message is returned, or the message's server ends, or the thread's
--- process dies.
-pub record IsAnsweredIn (who : ThreadId) (number : Number) (n : ℕ) (start : Machine) (moments : List Moment) (i : ℕ) : Type 0 where
-  pub moment : Moment
-  pub there : slice_get moments i ≡ Some moment
+-- What ends the wait of the thread for the answer to its message in moment i: a reply with the words of the message's return, or one that
+-- there is no server, because the message's server ends (`IsAnswerTo`); or the death of the thread's process.
+pub data EndsWait (who : ThreadId) (number : Number) (start : Machine) (moments : List Moment) (i : ℕ) : Type 0 where
+  ByReply : (words : List ℕ) (reply : RepliesAt words start moments i) → reply.who ≡ who
+      → IsAnswerTo number words reply.moment.cause (state_at start moments i) → EndsWait who number start moments i
+  ByDeath : (moment : Moment) → slice_get moments i ≡ Some moment → DiesIn (told_by moment.cause (state_at start moments i)) who.pid
+      → EndsWait who number start moments i
+
+-- It waits up to moment i, which ends that.
+pub record IsAnsweredIn (who : ThreadId) (number : Number) (start : Machine) (moments : List Moment) (i : ℕ) : Type 0 where
   pub waited : waits_for (state_at start moments i).threads who number ≡ true
   pub freed : waits_for (state_at start moments (suc i)).threads who number ≡ false
-  pub ends : EndsAt number n moment.cause (state_at start moments i) ⊎ DiesIn (told_by moment.cause (state_at start moments i)) who.pid
+  pub ends : EndsWait who number start moments i
 
--- The wait for the answer to a message at a prompt server ends by the deadline of the message, if the run goes on until then.
+-- The sender of a message at a prompt server is answered by the message's deadline, if the run goes on until then.
 abbrev pub IsAnsweredInTime : ℕ → Machine → List Moment → Type 0
 IsAnsweredInTime most start moments =
     (pace n : ℕ) (workers : Workers) (who : ThreadId) (number : Number) (first last : ℕ) → first ≤ last
     → IsServing pace n workers start moments first last → StaysAt number n start moments first last
     → waits_for (state_at start moments first).threads who number ≡ true
     → deadline most start.processes pace number n (state_at start moments first) ≤ (state_at start moments last).steps
-    → (i : ℕ) × (first ≤ i) × (i < last) × IsAnsweredIn who number n start moments i
+    → (i : ℕ) × (first ≤ i) × (i < last) × IsAnsweredIn who number start moments i
     × ((state_at start moments (suc i)).steps ≤ deadline most start.processes pace number n (state_at start moments first))
 
 -- ---- forwards

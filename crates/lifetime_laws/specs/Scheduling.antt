@@ -1,10 +1,17 @@
 -- How soon a thread that is Ready does its next step, if nothing comes but ticks of a bounded length.
-use Rattle.std.specs.Prelude.{◌≡◌, ◌≢◌, ℕ, suc, ◌+◌, ◌-◌, ◌*◌, ◌<◌, ◌≤◌, List, slice_get, Some}
+use Rattle.std.specs.Prelude.{◌≡◌, ◌≢◌, ℕ, suc, ◌+◌, ◌-◌, ◌*◌, ◌<◌, ◌≤◌, ◌==◌, false, List, slice_get, Some}
+use Rattle.std.specs.Bool.{⊤}
 use Rattle.std.specs.List.{All}
 use Rattle.xk_base.specs.declared.events.Event.{Event}
-use Rattle.xk_base.specs.declared.events.Event.TheVariants.{Tick, Pick, Irq, Kill}
+use Rattle.xk_base.specs.declared.events.Event.TheVariants.{Irq as IrqEvent, Kill, Pick, Tick}
 use Rattle.xk_base.specs.declared.ids.ThreadId.{ThreadId}
+use Rattle.xk_base.specs.declared.records.Rec.{Rec}
+use Rattle.xk_base.specs.declared.records.What.{What}
+use Rattle.xk_base.specs.declared.records.What.TheVariants.{Call, Reply, Retry, Byte, Fault, End, Irq, Gone}
+use Rattle.syscall_codec.specs.CallNumbers.{yield_turn}
+use Rattle.syscall_codec.specs.CallWords.{call_number}
 use Rattle.xk_base.specs.Tables.Circle.{thread_ids}
+use Rattle.confidentiality_laws.specs.TwoRuns.{records_by}
 use Rattle.machine_model.specs.Runs.Moments.{ByTurn, Moment, state_at}
 use Rattle.machine_model.specs.State.Machine.{Machine}
 use Rattle.transcript_laws.specs.Turns.{DoesStep, IsOrderKept, IsReadyThrough}
@@ -15,7 +22,7 @@ use Rattle.transcript_laws.specs.Turns.{DoesStep, IsOrderKept, IsReadyThrough}
 abbrev pub IsTickUpTo : ℕ → Event → Type 0
 IsTickUpTo most (Tick n) = (1 ≤ n) × (n ≤ most)
 IsTickUpTo most (Pick pid tid) = ⊥
-IsTickUpTo most (Irq k) = ⊥
+IsTickUpTo most (IrqEvent k) = ⊥
 IsTickUpTo most (Kill pid) = ⊥
 
 -- .. and nothing else
@@ -47,6 +54,31 @@ pub record IsInLine (who : ThreadId) (start : Machine) (moments : List Moment) (
   pub ready : IsReadyThrough who start moments first last
   pub order : IsOrderKept start moments first last
   pub turns : KeepsTurns who start moments first last
+
+-- ---- turns that the records show to be kept
+
+-- the record is no retry, no call of Yield and no start of a handler
+abbrev pub KeepsTurn : What → Type 0
+KeepsTurn (Call who words) = (call_number words == yield_turn) ≡ false
+KeepsTurn (Reply who words) = ⊤
+KeepsTurn (Retry who) = ⊥
+KeepsTurn (Byte who byte) = ⊤
+KeepsTurn (Fault who cause value) = ⊤
+KeepsTurn (End who) = ⊤
+KeepsTurn (Irq pid k) = ⊥
+KeepsTurn (Gone pid) = ⊤
+
+-- .. and so is each of the moments from the first to before the last
+abbrev pub NobodyYields : Machine → List Moment → ℕ → ℕ → Type 0
+NobodyYields start moments first last =
+    (i : ℕ) (moment : Moment) → first ≤ i → i < last → slice_get moments i ≡ Some moment
+    → All (λ (rec : Rec). KeepsTurn rec.what) (records_by moment.cause (state_at start moments i))
+
+-- Then each thread that is Ready waits for its turn.
+abbrev pub WaitsInLine : Machine → List Moment → Type 0
+WaitsInLine start moments =
+    (who : ThreadId) (first last : ℕ) → IsReadyThrough who start moments first last → NobodyYields start moments first last
+    → IsInLine who start moments first last
 
 -- ---- its next step
 

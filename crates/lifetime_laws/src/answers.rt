@@ -12,8 +12,8 @@ ghost use Rattle.lifetime_laws.specs.Scheduling.{AreTicksUpTo};
 
 /// **A served client is answered.** Let nothing come but ticks of 1 to `most` steps, and a server be prompt: within `pace` own steps its
 /// receiver takes the oldest queued message and a holder gives up what it holds, both Ready while there is such work, and both get their
-/// turns. A message is at the server for fewer steps than the bound says, by how many messages stand before it. So the wait of its sender
-/// ends within the bound, unless it is forwarded; and with forwards between prompt servers within a bound by their number.
+/// turns. A message leaves the server by its deadline, which counts the messages before it. So by then its sender has its reply, or its
+/// process is dead, unless the message is forwarded. With forwards between prompt servers the message is over within a bound by their number.
 pub fn served_clients_are_answered()
     ensures messages { (events : List Event) (limit most : ℕ) (start : Machine) → Matched start
         → IsTrue (is_thread_id start.processes start.cursor) → AreTicksUpTo most events

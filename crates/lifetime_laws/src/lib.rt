@@ -16,6 +16,6 @@ pub use pages::{
     only_stores_change_bytes, owners_change_by_moves, pages_add_up,
     pages_are_neither_lost_nor_doubled, wrong_kernels_are_refused,
 };
-pub use scheduling::{retries_can_starve, steps_are_fair};
+pub use scheduling::{quiet_turns_are_kept, retries_can_starve, steps_are_fair};
 pub use untouched::processes_apart_are_untouched;
 pub use waiting::deadlocks_last;
