@@ -40,7 +40,8 @@ use Rattle.machine_model.specs.Stepping.Timer.{is_due, raised_by_timer, timed, t
 use Rattle.machine_model.proofs.StepLemmas.{no_step}
 use Rattle.transcript_laws.specs.Answering.{awaits_reply, is_waiting}
 use Rattle.transcript_laws.specs.Serving.{DiesIn, told_by}
-use Rattle.transcript_laws.proofs.Following.StepLemmas.{numbered, step_is}
+use Rattle.transcript_laws.proofs.Following.StepLemmas.{numbered}
+use Rattle.lifetime_laws.proofs.SteppedLemmas.{step_is}
 use Rattle.transcript_laws.proofs.Serving.ServedStepLemmas.{timed_tells}
 use Rattle.lifetime_laws.proofs.FreedCallLemmas.{Leaves, call_leaves}
 

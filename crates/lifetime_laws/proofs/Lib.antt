@@ -26,6 +26,7 @@ pub mod SendLemmas
 pub mod SenderLemmas
 pub mod ServedLemmas
 pub mod StepLemmas
+pub mod SteppedLemmas
 pub mod StoreLemmas
 pub mod TickedLemmas
 pub mod TurnLemmas
