@@ -23,11 +23,16 @@ use Rattle.machine_model.proofs.StepLemmas.{no_step}
 use Rattle.machine_model.proofs.Runs.TimerLemmas.{timed_raised}
 use Rattle.machine_laws.proofs.Stepping.EveryStepLemmas.{every_cause_keeps}
 use Rattle.machine_laws.proofs.Threading.ThreadStepLemmas.{step_of_actor, turned_to}
+use Rattle.confidentiality_laws.proofs.CauseCaseLemmas.{ActCase, CauseCase, EndsHandler, EndsThread, Instructs, Kills, Raises, Rests, Steps, case_of}
 use Rattle.interrupt_laws.specs.Busy.{PendingMeansBusy, PendingStaysBusy, StartsBusy}
 use Rattle.interrupt_laws.proofs.BusyDeliveryLemmas.{AreNumbers, handler_end_busy, pended_busy, timed_busy}
 use Rattle.interrupt_laws.proofs.IdleCallLemmas.{call_calms}
 use Rattle.interrupt_laws.proofs.IdleLemmas.{Calms, busy_kept, changed_idles, death_calms, settled_calms, then_calms, thread_end_calms}
 use Rattle.interrupt_laws.proofs.KeptPendingLemmas.{PendingIsClaimed}
+use Rattle.confidentiality_laws.specs.TwoRuns.{records_by}
+use Rattle.machine_laws.proofs.Threading.ThreadStepLemmas.{step_of_thread}
+use Rattle.machine_model.specs.Stepping.Step.{acted}
+use Rattle.machine_model.specs.Stepping.Timer.{timed}
 
 -- a change that calms, with its answers
 change_busy : (m : Machine) (change : Change) → Calms m change.machine → PendingMeansBusy m → PendingMeansBusy (settled change).machine
@@ -55,68 +60,44 @@ module _ (m : Machine) (claimed : PendingIsClaimed m) (numbers : AreNumbers m) (
       busy_kept m (executed m t CallsKernel).machine (call_calms m (arguments_of t.regs) claimed) busy
   executed_busy t (Traps cause value) = change_busy m (death m.cursor.pid m) (death_calms m.cursor.pid m) busy
 
-  abbrev acted_by : Thread → Bool → Bool → Executed → Told
-  acted_by t a b x =
-      if a then after (End m.cursor) (settled (thread_ended m.cursor (reg_at t.regs 10) m)) else (
-      if b then after (End m.cursor) (settled (handler_ended m.cursor.pid m)) else
-      executed m t x)
-
-  kind_busy : (t : Thread) (a b : Bool) (x : Executed) → PendingMeansBusy (acted_by t a b x).machine
-  kind_busy t true b x =
-      change_busy m (thread_ended m.cursor (reg_at t.regs 10) m) (thread_end_calms m.cursor (reg_at t.regs 10) m) busy
-  kind_busy t false true x =
-      busy_kept (handler_ended m.cursor.pid m).machine (settled (handler_ended m.cursor.pid m)).machine
-      (settled_calms (handler_ended m.cursor.pid m)) (handler_end_busy m.cursor.pid m numbers busy)
-  kind_busy t false false x = executed_busy t x
-
-  acted_busy : (o : Option Thread) → PendingMeansBusy (acted_if_there m o).machine
-  acted_busy None = busy
-  acted_busy (Some t) = kind_busy t (ends_thread m.cursor t.pc) (ends_handler m.cursor t.pc) (performed m m.cursor t).executed
-
 -- ---- a step
 
 module _ (m : Machine) (h : Matched m) (busy : PendingMeansBusy m) where
   claimed : PendingIsClaimed m
   claimed k pending = h.rest.claims.pending_claimed k pending
 
-  module _ (who : ThreadId) (acts : actor m ≡ Some who) where
+  module _ (who : ThreadId) (t : Thread) (acts : actor m ≡ Some who) (there : m.threads who ≡ Some t) where
+    abbrev n : Machine
+    n = turned_to who m
+
     abbrev done : Told
-    done = counted (turned_to who m) (m.threads who) (acted_if_there (turned_to who m) (m.threads who))
+    done = counted n (Some t) (acted n t)
 
     same_claims : (step m).machine.claims ≡ done.machine.claims
-    same_claims = ap (λ (x : Machine). x.claims) (step_of_actor m who acts) ∙ ap (λ (x : Machine). x.claims) (timed_raised done).is
+    same_claims = ap (λ (x : Machine). x.claims) (step_of_thread m who t acts there) ∙ ap (λ (x : Machine). x.claims) (timed_raised done).is
 
     numbers : AreNumbers done.machine
     numbers k claim c =
         (every_cause_keeps ByStep m h).rest.claims.numbers k claim (ap (λ (f : ℕ → Option Claim). f k) same_claims ∙ c)
 
-    by_actor : PendingMeansBusy (step m).machine
-    by_actor =
-        subst PendingMeansBusy (sym (step_of_actor m who acts))
-        (timed_busy (is_due done.machine.compare done.machine.steps) done numbers
-        (acted_busy (turned_to who m) claimed h.rest.claims.numbers busy (m.threads who)))
+    act_busy : (done : Told) → ActCase m who t done → PendingMeansBusy done.machine
+    act_busy _ (Instructs x e) = executed_busy n claimed h.rest.claims.numbers busy t x
+    act_busy _ (EndsThread e) = change_busy n (thread_ended who (reg_at t.regs 10) n) (thread_end_calms who (reg_at t.regs 10) n) busy
+    act_busy _ (EndsHandler e) =
+        busy_kept (handler_ended who.pid n).machine (settled (handler_ended who.pid n)).machine (settled_calms (handler_ended who.pid n))
+        (handler_end_busy who.pid n h.rest.claims.numbers busy)
 
-  by_step : (o : Option ThreadId) → actor m ≡ o → PendingMeansBusy (step m).machine
-  by_step None e = subst PendingMeansBusy (sym (ap (λ (r : Recorded). r.machine) (no_step m e))) busy
-  by_step (Some who) e = by_actor who e
-
-  -- ---- events
-
-  by_irq : (k : ℕ) (o : Option Claim) → m.claims k ≡ o → PendingMeansBusy (raised_if k o (unreserved m)).machine
-  by_irq k None e = busy
-  by_irq k (Some claim) e = pended_busy k claim (unreserved m) h.rest.claims.numbers e busy
-
-  by_kill : (pid : Pid) (b : Bool) → PendingMeansBusy (killed_if b pid (unreserved m)).machine
-  by_kill pid false = busy
-  by_kill pid true = change_busy (unreserved m) (death pid (unreserved m)) (death_calms pid (unreserved m)) busy
+    stepped_busy : ActCase m who t (acted n t) → PendingMeansBusy (timed done).machine
+    stepped_busy case = timed_busy (is_due done.machine.compare done.machine.steps) done numbers (act_busy (acted n t) case)
 
   pub cause_busy : (cause : Cause) → PendingMeansBusy (caused cause m)
-  unfolding picked raised killed turn
-  cause_busy ByStep = by_step (actor m) refl
-  cause_busy (ByPick who) = busy
-  cause_busy (ByIrq k) = by_irq k (m.claims k) refl
-  cause_busy (ByKill pid) = by_kill pid (m.process pid.0).alive
-  cause_busy ByTurn = busy
+  cause_busy cause = by cause (record { machine = caused cause m; records = records_by cause m }) (case_of cause m)
+    where
+      by : (cause : Cause) (next : Recorded) → CauseCase m cause next → PendingMeansBusy next.machine
+      by _ _ (Rests cause cursor reserved) = busy
+      by _ _ (Steps who t acts there case) = stepped_busy who t acts there case
+      by _ _ (Raises k claim e) = pended_busy k claim (unreserved m) h.rest.claims.numbers e busy
+      by _ _ (Kills pid e) = change_busy (unreserved m) (death pid (unreserved m)) (death_calms pid (unreserved m)) busy
 
 -- ---- runs
 

@@ -26,6 +26,7 @@ use Rattle.machine_model.proofs.Runs.TimerLemmas.{pended_raised}
 use Rattle.machine_laws.proofs.Stepping.StepKindLemmas.{Executes, HandlerEnds, StepKind, ThreadEnds, acted_as_executed, is_call, is_done, kind_of}
 use Rattle.machine_laws.proofs.Threading.ThreadAnswerLemmas.{same_thread-self}
 use Rattle.machine_laws.proofs.Threading.ThreadStepLemmas.{acted_call, then_acted, turned_to}
+use Rattle.confidentiality_laws.proofs.CauseCaseLemmas.{ActCase, EndsHandler, EndsThread, Instructs, act_of}
 use Rattle.noninterference_laws.proofs.InstructionLemmas.{delivery_other, instruction_leaves, other_thread, unanswered}
 use Rattle.noninterference_laws.proofs.PendingLemmas.{lowest_claimed, pended_pending, started_pending}
 use Rattle.noninterference_laws.specs.Causes.{AllKeepOthers, LeavesAll, by_kill, by_step, is_of_claimant}
@@ -36,6 +37,8 @@ use Rattle.noninterference_laws.proofs.CallLemmas.{called_parts}
 use Rattle.noninterference_laws.proofs.DeathLemmas.{dead_claims, dead_pages, dead_pending, dead_processes, dead_servers, dead_threads}
 use Rattle.noninterference_laws.proofs.OtherLemmas.{apart_pid}
 use Rattle.noninterference_laws.proofs.PartLemmas.{KeepsChange, KeepsParts, LeavesParts, left_parts, settled_parts, step_others}
+use Rattle.machine_model.specs.State.Changes.{Told}
+use Rattle.machine_model.specs.Stepping.Step.{executed}
 
 -- ---- deaths
 
@@ -169,15 +172,12 @@ pub record BeforeTimer (m : Machine) (who : ThreadId) : Type 0 where
   pub keeps : KeepsParts (by_step who m) (acted (turned_to who m) thread).machine
 
 pub step_before : (m : Machine) (who : ThreadId) → Matched m → actor m ≡ Some who → does_instruction m who ≡ false → BeforeTimer m who
-step_before m who h acts none = go (kind_of m who acts)
+step_before m who h acts none =
+    let act = act_of m who acts in
+    record { thread = act.thread; there = act.there; keeps = act_keeps act.thread act.there (acted (turned_to who m) act.thread) act.case }
   where
-    call_parts : (t : Thread) → executes m who t ≡ Some CallsKernel
-        → KeepsParts (by_call who (arguments_of t.regs) m) (acted (turned_to who m) t).machine
-    call_parts t e =
-        subst (KeepsParts (by_call who (arguments_of t.regs) m)) (sym (acted_call m who (arguments_of t.regs) t (ap (option_and_then (words_if_call t)) e)))
-        (called_parts m h who (arguments_of t.regs))
-
-    executed_keeps : (t : Thread) (x : Executed) → m.threads who ≡ Some t → executes m who t ≡ Some x → BeforeTimer m who
+    executed_keeps : (t : Thread) (x : Executed) → m.threads who ≡ Some t → executes m who t ≡ Some x
+        → KeepsParts (by_step who m) (executed (turned_to who m) t x).machine
     executed_keeps t (Next regs pc) there e = absurd (false≢true (sym none ∙ is_done m who t there (Next regs pc) e refl))
     executed_keeps t (Stores address width value regs pc) there e =
         absurd (false≢true (sym none ∙ is_done m who t there (Stores address width value regs pc) e refl))
@@ -185,40 +185,20 @@ step_before m who h acts none = go (kind_of m who acts)
         absurd (false≢true (sym none ∙ is_done m who t there (StoresToConsole offset value regs pc) e refl))
     executed_keeps t (StoresToTimer offset width value regs pc) there e =
         absurd (false≢true (sym none ∙ is_done m who t there (StoresToTimer offset width value regs pc) e refl))
-    executed_keeps t CallsKernel there e = record {
-      thread = t;
-      there = there;
-      keeps =
-          subst
-          (λ c. KeepsParts (record { pid = who.pid; call = option_map (λ words. record { who = who; words = words }) c; before = m })
-          (acted (turned_to who m) t).machine)
-          (sym (is_call m who t there e)) (call_parts t e);
-    }
-    executed_keeps t (Traps cause value) there e = record {
-      thread = t;
-      there = there;
-      keeps =
-          subst (λ told. KeepsParts (by_step who m) told.machine) (sym (acted_as_executed m who t (Traps cause value) e))
-          (settled_parts (by_step who m) (death who.pid (turned_to who m)) (died m h who (by_step who m).call m.threads (λ id other. refl)));
-    }
+    executed_keeps t CallsKernel there e =
+        subst
+        (λ c. KeepsParts (record { pid = who.pid; call = option_map (λ words. record { who = who; words = words }) c; before = m })
+        (executed (turned_to who m) t CallsKernel).machine)
+        (sym (is_call m who t there e)) (called_parts m h who (arguments_of t.regs))
+    executed_keeps t (Traps cause value) there e =
+        settled_parts (by_step who m) (death who.pid (turned_to who m)) (died m h who (by_step who m).call m.threads (λ id other. refl))
 
-    go : StepKind m who → BeforeTimer m who
-    go (Executes t x there e) = executed_keeps t x there e
-    go (ThreadEnds t there ends) = record {
-      thread = t;
-      there = there;
-      keeps =
-          subst (λ b. KeepsParts (by_step who m) (then_acted m who [] t b (ends_handler who t.pc) (performed (turned_to who m) who t).executed).machine) (sym ends)
-          (settled_parts (by_step who m) (thread_ended who (reg_at t.regs 10) (turned_to who m)) (ended_keeps m h who (by_step who m).call (reg_at t.regs 10)));
-    }
-    go (HandlerEnds t there goes ends) = record {
-      thread = t;
-      there = there;
-      keeps =
-          subst (λ a. KeepsParts (by_step who m) (then_acted m who [] t a (ends_handler who t.pc) (performed (turned_to who m) who t).executed).machine) (sym goes)
-          (subst (λ b. KeepsParts (by_step who m) (then_acted m who [] t false b (performed (turned_to who m) who t).executed).machine) (sym ends)
-          (left_parts (by_step who m) (settled (handler_ended who.pid (turned_to who m))).machine (handled_leaves m h who (by_step who m).call)));
-    }
+    act_keeps : (t : Thread) → m.threads who ≡ Some t → (done : Told) → ActCase m who t done → KeepsParts (by_step who m) done.machine
+    act_keeps t there _ (Instructs x e) = executed_keeps t x there e
+    act_keeps t there _ (EndsThread ends) =
+        settled_parts (by_step who m) (thread_ended who (reg_at t.regs 10) (turned_to who m)) (ended_keeps m h who (by_step who m).call (reg_at t.regs 10))
+    act_keeps t there _ (EndsHandler ends) =
+        left_parts (by_step who m) (settled (handler_ended who.pid (turned_to who m))).machine (handled_leaves m h who (by_step who m).call)
 
 step_keeps : (m : Machine) (who : ThreadId) → Matched m → actor m ≡ Some who → does_instruction m who ≡ false
     → KeepsOthers (by_step who m) (step m).machine

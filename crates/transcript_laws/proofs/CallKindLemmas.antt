@@ -1,8 +1,8 @@
 -- Each served call is of one of the kinds.
 use Rattle.std.proofs.Common.{◌≡◌, ℕ, ◌<◌, Bool, true, false, List, [], ◌∷◌, ◌++◌, Option, Some, None, refl, sym, ap, ◌∙◌, subst, arith}
-use Rattle.std.specs.Prelude.{◌==◌, ◌&&◌, is_none, is_some, slice_index, unwrap_or}
+use Rattle.std.specs.Prelude.{◌==◌, ◌&&◌, is_none, is_some, slice_index, unwrap_or, ◌+◌, nat_le}
 use Rattle.std.specs.Option.{option_and_then, option_map_or}
-use Rattle.std.proofs.lemmas.Bool.{eq-eqb, eqb-true, false≢true}
+use Rattle.std.proofs.lemmas.Bool.{and_parts, eq-eqb, eqb-true, false≢true}
 use Rattle.std.proofs.lemmas.Option.{none-some}
 use Rattle.xk_base.specs.declared.errors.XousError.{XousError}
 use Rattle.xk_base.specs.declared.errors.XousError.TheVariants.{ServerQueueFull}
@@ -14,12 +14,17 @@ use Rattle.xk_base.specs.declared.messages.Message.{Message}
 use Rattle.xk_base.specs.declared.messages.MsgKind.{MsgKind}
 use Rattle.xk_base.specs.declared.messages.MsgKind.TheVariants.{Scalar}
 use Rattle.xk_base.specs.Tables.Connections.{connected_to}
+use Rattle.xk_base.specs.Tables.Counting.{least_below}
 use Rattle.xk_base.specs.Tables.Sids.{serial_of}
+use Rattle.xk_base.specs.declared.limits.TheConstants.{TID_LIMIT}
+use Rattle.xk_base.proofs.CountingLemmas.{least_below-passes}
 use Rattle.syscall_codec.specs.CallNumbers.{create_server_with_address, destroy_server, forward_message, receive_message, reply_message, return_memory, return_scalar1}
 use Rattle.syscall_codec.specs.CallNumbers.{return_scalar2, send_message, try_receive_message, try_send_message}
 use Rattle.syscall_codec.specs.CallWords.{call_number, forward_cid, return_address, return_size, send_cid}
 use Rattle.syscall_codec.specs.ReplyWords.{connection_words, plain_words, range_words, scalar1_words, thread_words}
 use Rattle.machine_model.specs.Calling.Calls.{call}
+use Rattle.machine_model.specs.Calling.ThreadCalls.{create_refusals, free_tid}
+use Rattle.syscall_codec.specs.CallWords.{thread_entry}
 use Rattle.machine_model.specs.Calling.ServerCalls.{create_server_refusals, named_server, named_sid, own_server_refusals}
 use Rattle.machine_model.specs.Messaging.ForwardCalls.{are_one_server, forward_refusals, is_passable_of, next_arrival, next_arrival_refusals, passable, passed_from, passed_number, passed_to}
 use Rattle.machine_model.specs.Messaging.Messages.{carries_pages, is_lend_of, oldest}
@@ -31,9 +36,9 @@ use Rattle.machine_model.specs.Runs.LoanSpan.{is_send}
 use Rattle.machine_model.specs.Runs.Matched.{Matched}
 use Rattle.machine_model.specs.State.Changes.{Change, first_refusal}
 use Rattle.machine_model.specs.State.Connections.{own_connections}
-use Rattle.machine_model.specs.State.Machine.{Machine, Server}
+use Rattle.machine_model.specs.State.Machine.{Machine, Server, Thread}
 use Rattle.machine_model.specs.State.Servers.{is_full, is_own, is_server_of, server_at, with_sid}
-use Rattle.machine_model.specs.State.Threads.{answer_to, both_answers}
+use Rattle.machine_model.specs.State.Threads.{answer_to, both_answers, thread_id}
 use Rattle.machine_laws.proofs.Calling.RunRefusalLemmas.{not_false}
 use Rattle.confidentiality_laws.proofs.Keeping.CallLemmas.{none_hold}
 use Rattle.call_effects.specs.Deciding.{decide, rows}
@@ -46,8 +51,8 @@ use Rattle.call_effects.proofs.MeantLemmas.{calls_meant}
 use Rattle.call_effects.proofs.RowLemmas.{OfRows, ◌also◌, of_row}
 use Rattle.call_effects.proofs.ServedLemmas.{OfPlan, OfServed, done, of_both, of_plan}
 use Rattle.loan_laws.proofs.Fates.ServedFateLemmas.{some_of}
-use Rattle.transcript_laws.specs.CallKinds.{AreOwn, CallKind, CallsAreOfKinds, DestroysServer, EndsProcess, FindsNone, FoundsServer, IsOfKind, IsPassing, IsReturning, IsSending}
-use Rattle.transcript_laws.specs.CallKinds.{Keeps, LeadsTo, NamesOwn, Nobody, PassesMessage, ReturnsMessage, SendsMessage, TakesMessage, WithWords, destroying, finding_none, is_returnable}
+use Rattle.transcript_laws.specs.CallKinds.{AreOwn, ByWaiting, CallKind, CallsAreOfKinds, DestroysServer, EndsProcess, FindsNone, FoundsServer, IsOfKind, IsPassing, IsReturning, IsSending}
+use Rattle.transcript_laws.specs.CallKinds.{Keeps, LeadsTo, NamesOwn, PassesMessage, ReturnsMessage, SendsMessage, TakesMessage, WithWords, destroying, finding_none, is_returnable}
 use Rattle.transcript_laws.specs.CallKinds.{loan_back, passing, place_at_server, reaches_others, sending, words_back}
 use Rattle.transcript_laws.specs.Following.{is_return_call}
 use Rattle.transcript_laws.specs.Serving.{is_receive}
@@ -80,7 +85,25 @@ module _ (m : Machine) (h : Matched m) (w : List ℕ) where
   keeps : {k : ℕ} {effects : List Effect} → reaches_others k ≡ false → is_receive k ≡ false → (words : List ℕ)
       → (slice_index words 0 == reply_message) ≡ false → AreOwn m effects
       → CallKind m k w (record { effects = effects; answers = answer_to m.cursor words; gone = None })
-  keeps alone other words plain own = Keeps _ _ alone other (record { own = own; answered = WithWords words plain })
+  keeps alone other words plain own = Keeps _ _ alone other (record { own = own; answered = WithWords _ words plain })
+
+  -- a new thread begins where none was
+  begins : first_refusal (create_refusals m (thread_entry w)) ≡ None → m.threads (thread_id m.cursor.pid (unwrap_or (free_tid m m.cursor.pid) 0)) ≡ None
+  unfolding free_tid
+  begins none = go (free_tid m m.cursor.pid) refl (none_hold (create_refusals m (thread_entry w)) none).1.0
+    where
+      is_free : ℕ → Bool
+      is_free tid = nat_le 2 tid && is_none (m.threads (thread_id m.cursor.pid tid))
+
+      nobody : (o : Option Thread) → is_none o ≡ true → o ≡ None
+      nobody None e = refl
+      nobody (Some t) e = absurd (false≢true e)
+
+      go : (o : Option ℕ) → least_below (TID_LIMIT + 1) is_free ≡ o → is_none o ≡ false → m.threads (thread_id m.cursor.pid (unwrap_or o 0)) ≡ None
+      go None q e = absurd (false≢true (sym e))
+      go (Some tid) q e =
+          nobody (m.threads (thread_id m.cursor.pid tid))
+          (and_parts (nat_le 2 tid) (is_none (m.threads (thread_id m.cursor.pid tid))) (least_below-passes (TID_LIMIT + 1) is_free tid q)).1
 
   -- ---- servers that a call names
 
@@ -297,7 +320,7 @@ module _ (m : Machine) (h : Matched m) (w : List ℕ) where
       also receives receive_message refl
       also (λ none room. sends_if send_message refl none room)
       also (λ passed none. keeps refl refl (connection_words _) refl (tt, tt))
-      also (λ none. keeps refl refl (thread_words _) refl (refl, tt))
+      also (λ none. keeps refl refl (thread_words _) refl (record { own = refl; free = begins none; ready = refl }, tt))
       also (λ none. keeps refl refl plain_words refl (refl, tt))
       also returns_memory
       also EndsProcess refl
@@ -307,7 +330,7 @@ module _ (m : Machine) (h : Matched m) (w : List ℕ) where
       also (λ none. returns return_scalar1 refl (none_hold (return_scalar_refusals m (named_number w)) none).0 (λ e. absurd (false≢true e)))
       also (λ none. returns return_scalar2 refl (none_hold (return_scalar_refusals m (named_number w)) none).0 (λ e. absurd (false≢true e)))
       also receives try_receive_message refl
-      also (λ none. Keeps _ _ refl refl (record { own = ((refl, tt), tt); answered = Nobody }))
+      also (λ none. Keeps _ _ refl refl (record { own = ((refl, tt), tt); answered = ByWaiting _ }))
       also destroys
       also keeps refl refl (thread_words _) refl tt
       also keeps refl refl (scalar1_words _) refl tt

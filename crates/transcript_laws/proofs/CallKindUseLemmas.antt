@@ -8,6 +8,8 @@ use Rattle.xk_base.specs.declared.messages.Message.{Message}
 use Rattle.syscall_codec.specs.CallNumbers.{create_server_with_address, destroy_server, forward_message, receive_message, return_memory, return_scalar1}
 use Rattle.syscall_codec.specs.CallNumbers.{return_scalar2, send_message, terminate_process, try_receive_message, try_send_message}
 use Rattle.syscall_codec.specs.ReplyWords.{plain_words}
+use Rattle.ledger_model.specs.Ledger.{Ledger}
+use Rattle.ledger_model.specs.Steps.{end_loan}
 use Rattle.machine_model.specs.Messaging.ForwardCalls.{is_passable_of}
 use Rattle.machine_model.specs.Messaging.Messages.{is_blocking_of, is_blocking_scalar, is_lend, is_lend_of, is_of_number}
 use Rattle.machine_model.specs.Messaging.ReturnCalls.{named_number}
@@ -18,8 +20,8 @@ use Rattle.machine_model.specs.State.Threads.{answer_to, no_answers}
 use Rattle.call_effects.specs.Effects.{Awaits, Claims, ClosesServers, Connects, Effect, Ends, EndsTurn, Forgets, Founds, Frees, HasHeap}
 use Rattle.call_effects.specs.Effects.{Orphans, Pages, Serves, Starts, TakesNumber, Unqueues, Waits, apply, run}
 use Rattle.call_effects.specs.Verdicts.{Plan}
-use Rattle.transcript_laws.specs.CallKinds.{AreOwn, CallKind, DestroysServer, EndsProcess, FindsNone, FoundsServer, IsKeeping, IsOwn, IsPassing, IsReturning}
-use Rattle.transcript_laws.specs.CallKinds.{IsSending, Keeps, Nobody, PassesMessage, ReturnsMessage, SendsMessage, TakesMessage, WithWords, finding_none}
+use Rattle.transcript_laws.specs.CallKinds.{AreOwn, ByWaiting, CallKind, DestroysServer, EndsProcess, FindsNone, FoundsServer, IsKeeping, IsOwn, IsPassing, IsReturning}
+use Rattle.transcript_laws.specs.CallKinds.{IsSending, Keeps, PassesMessage, ReturnsMessage, SendsMessage, TakesMessage, WithWords, finding_none}
 use Rattle.transcript_laws.specs.CallKinds.{is_returnable, loan_back, place_at_server, reaches_others, sending}
 use Rattle.transcript_laws.specs.Following.{is_return_call}
 
@@ -67,8 +69,8 @@ pub none_keeps : (m : Machine) (number : ℕ) (serial : Serial) → IsKeeping m 
 none_keeps m number serial = go (number == receive_message)
   where
     go : (b : Bool) → IsKeeping m (if b then Waits m.cursor (Receiving serial) ∷ [] else []) (if b then no_answers else answer_to m.cursor plain_words)
-    go true = record { own = ((refl, tt), tt); answered = Nobody }
-    go false = record { own = tt; answered = WithWords plain_words refl }
+    go true = record { own = ((refl, tt), tt); answered = ByWaiting (Receiving serial) }
+    go false = record { own = tt; answered = WithWords [] plain_words refl }
 
 -- what a return can return has its number
 pub returnable_number : (number : ℕ) (w : List ℕ) (x : Message) → is_returnable number w x ≡ true → is_of_number (named_number w) x ≡ true
@@ -90,6 +92,14 @@ loan_leaves number w n = go (number == return_memory)
     go : (b : Bool) → LeavesMessages n (run (if b then Pages (Ends (named_number w)) ∷ [] else []) n)
     go true = record { servers = refl; next_number = refl; processes = refl }
     go false = record { servers = refl; next_number = refl; processes = refl }
+
+-- it is the ledger's alone
+pub loan_is : (number : ℕ) (w : List ℕ) (n : Machine) → (l : Ledger) × (run (loan_back number w) n ≡ record n { ledger = l })
+loan_is number w n = go (number == return_memory)
+  where
+    go : (b : Bool) → (l : Ledger) × (run (if b then Pages (Ends (named_number w)) ∷ [] else []) n ≡ record n { ledger = l })
+    go true = (end_loan (named_number w) n.ledger, refl)
+    go false = (n.ledger, refl)
 
 -- ---- numbers
 

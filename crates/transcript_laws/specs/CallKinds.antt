@@ -5,6 +5,7 @@ use Rattle.std.specs.Prelude.{◌≡◌, ◌≢◌, ℕ, ◌==◌, ◌||◌, Boo
 use Rattle.std.specs.Bool.{⊤}
 use Rattle.xk_base.specs.declared.ids.Place.{Place}
 use Rattle.xk_base.specs.declared.ids.Serial.{Serial}
+use Rattle.xk_base.specs.declared.ids.ThreadId.{ThreadId}
 use Rattle.xk_base.specs.declared.ids.Vpn.{Vpn}
 use Rattle.xk_base.specs.declared.messages.Message.{Message}
 use Rattle.xk_base.specs.declared.messages.MsgKind.{MsgKind}
@@ -28,7 +29,7 @@ use Rattle.machine_model.specs.Runs.LoanSpan.{is_send}
 use Rattle.machine_model.specs.Runs.Matched.{Matched}
 use Rattle.machine_model.specs.State.Changes.{Change, Served, first_refusal}
 use Rattle.machine_model.specs.State.Connections.{own_connections}
-use Rattle.machine_model.specs.State.Machine.{Idle, Joining, Machine, Ready, Receiving, Server, ThreadState, Waiting}
+use Rattle.machine_model.specs.State.Machine.{Idle, Joining, Machine, Ready, Receiving, Server, Thread, ThreadState, Waiting}
 use Rattle.machine_model.specs.State.Servers.{is_full, with_sid}
 use Rattle.machine_model.specs.State.Threads.{Answers, answer_to, both_answers, no_answers}
 use Rattle.call_effects.specs.Effects.{Awaits, Claims, ClosesServers, Connects, Effect, Ends, EndsTurn, Forgets, Founds, Frees, HasHeap}
@@ -68,11 +69,17 @@ WaitsAlone (Waiting number) = ⊥
 WaitsAlone (Joining tid) = ⊤
 WaitsAlone Idle = ⊥
 
+-- a thread of the caller's process begins, Ready, where none was
+pub record IsBeginning (m : Machine) (who : ThreadId) (thread : Thread) : Type 0 where
+  pub own : who.pid ≡ m.cursor.pid
+  pub free : m.threads who ≡ None
+  pub ready : thread.state ≡ Ready
+
 -- the effect is on the caller's process alone, and on no server and no message
 abbrev pub IsOwn : Machine → Effect → Type 0
 IsOwn m (Pages step) = IsOwnPages m step
 IsOwn m (HasHeap n) = ⊤
-IsOwn m (Starts who thread) = who.pid ≡ m.cursor.pid
+IsOwn m (Starts who thread) = IsBeginning m who thread
 IsOwn m (Waits who state) = (who ≡ m.cursor) × WaitsAlone state
 IsOwn m (Awaits waits number) = ⊥
 IsOwn m EndsTurn = ⊤
@@ -92,14 +99,15 @@ abbrev pub AreOwn : Machine → List Effect → Type 0
 AreOwn m [] = ⊤
 AreOwn m (effect ∷ effects) = IsOwn m effect × AreOwn m effects
 
--- the caller is answered, and not with a message, or nobody is
-pub data AnswersCaller (m : Machine) : Answers → Type 0 where
-  WithWords : (words : List ℕ) → (slice_index words 0 == reply_message) ≡ false → AnswersCaller m (answer_to m.cursor words)
-  Nobody : AnswersCaller m no_answers
+-- the caller is answered, and not with a message; or it waits, and nobody is answered
+pub data AnswersCaller (m : Machine) : List Effect → Answers → Type 0 where
+  WithWords : (effects : List Effect) (words : List ℕ) → (slice_index words 0 == reply_message) ≡ false
+      → AnswersCaller m effects (answer_to m.cursor words)
+  ByWaiting : (state : ThreadState) → AnswersCaller m (Waits m.cursor state ∷ []) no_answers
 
 pub record IsKeeping (m : Machine) (effects : List Effect) (answers : Answers) : Type 0 where
   pub own : AreOwn m effects
-  pub answered : AnswersCaller m answers
+  pub answered : AnswersCaller m effects answers
 
 -- ---- what a call finds
 

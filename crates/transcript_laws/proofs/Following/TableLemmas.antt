@@ -28,7 +28,7 @@ use Rattle.call_effects.specs.Effects.{Effect}
 use Rattle.call_effects.specs.Verdicts.{Plan}
 use Rattle.transcript_laws.proofs.CallKindLemmas.{of_kinds}
 use Rattle.transcript_laws.proofs.CallKindUseLemmas.{is_alone, none_keeps, of_either, own_run}
-use Rattle.transcript_laws.specs.CallKinds.{AnswersCaller, CallKind, DestroysServer, EndsProcess, FindsNone, FoundsServer, IsFounding, IsKeeping, Keeps, Nobody, PassesMessage, ReturnsMessage, SendsMessage, TakesMessage, WithWords, founding, reaches_others}
+use Rattle.transcript_laws.specs.CallKinds.{AnswersCaller, ByWaiting, CallKind, DestroysServer, EndsProcess, FindsNone, FoundsServer, IsFounding, IsKeeping, Keeps, PassesMessage, ReturnsMessage, SendsMessage, TakesMessage, WithWords, founding, reaches_others}
 use Rattle.machine_model.specs.State.Threads.{Answers}
 use Rattle.transcript_laws.proofs.Following.SayLemmas.{asks}
 use Rattle.transcript_laws.specs.Serving.{is_receive}
@@ -48,11 +48,11 @@ module _ (number : Number) (m : Machine) (h : Matched m) (ready : ready_at m m.c
   keeps_follows none effects answers it =
       let leaves = own_run m effects m it.own in
       simple number m w h (call_number w) refl none _ (λ n. ap (λ (s : ℕ → Option Server). keeping number (s n)) leaves.servers) leaves.next_number
-      (by answers it.answered) refl refl leaves.processes
+      (by effects answers it.answered) refl refl leaves.processes
     where
-      by : (answers : Answers) → AnswersCaller m answers → IsQuiet answers number (λ id. false)
-      by _ (WithWords words plain) = quietly words (ap (λ b. b && (slice_index words 1 == number.0)) plain)
-      by _ Nobody = none_quiet number (λ id. false)
+      by : (effects : List Effect) (answers : Answers) → AnswersCaller m effects answers → IsQuiet answers number (λ id. false)
+      by _ _ (WithWords effects words plain) = quietly words (ap (λ b. b && (slice_index words 1 == number.0)) plain)
+      by _ _ (ByWaiting state) = none_quiet number (λ id. false)
 
   -- a new server has no message
   founds_follows : call_number w ≡ create_server_with_address → IsFounding m w → Follows number m w (done m (founding m w))

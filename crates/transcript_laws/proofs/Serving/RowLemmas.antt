@@ -53,7 +53,7 @@ use Rattle.call_effects.specs.Rows.ThreadRows.{death_plan}
 use Rattle.call_effects.specs.Verdicts.{Plan}
 use Rattle.transcript_laws.proofs.CallKindLemmas.{named_is, of_kinds}
 use Rattle.transcript_laws.proofs.CallKindUseLemmas.{loan_leaves, none_keeps, own_run, returnable_number}
-use Rattle.transcript_laws.specs.CallKinds.{AnswersCaller, CallKind, DestroysServer, EndsProcess, FindsNone, FoundsServer, IsFounding, IsKeeping, IsReturning, IsSending, Keeps, NamesOwn, Nobody, PassesMessage, ReturnsMessage, SendsMessage, TakesMessage, WithWords, destroying, founding, is_returnable, place_at_server, returning, sending, taking, words_back}
+use Rattle.transcript_laws.specs.CallKinds.{AnswersCaller, ByWaiting, CallKind, DestroysServer, EndsProcess, FindsNone, FoundsServer, IsFounding, IsKeeping, IsReturning, IsSending, Keeps, NamesOwn, PassesMessage, ReturnsMessage, SendsMessage, TakesMessage, WithWords, destroying, founding, is_returnable, place_at_server, returning, sending, taking, words_back}
 use Rattle.machine_model.specs.State.Threads.{Answers}
 use Rattle.transcript_laws.specs.Serving.{IsDestroyed, ListStep}
 
@@ -83,11 +83,11 @@ module _ (cause : Cause) (by_step : cause ≡ ByStep) (m : Machine) (h : Matched
       → Serves cause m (done m (record { effects = effects; answers = answers; gone = None }))
   keeps_serves effects answers it =
       let leaves = own_run m effects m it.own in
-      record { servers = λ n. Stays (ap (λ (s : ℕ → Option Server). s n) leaves.servers); answers = by answers it.answered; delivery = refl }
+      record { servers = λ n. Stays (ap (λ (s : ℕ → Option Server). s n) leaves.servers); answers = by effects answers it.answered (run effects m).servers; delivery = refl }
     where
-      by : (answers : Answers) → AnswersCaller m answers → AreMeant cause m (run effects m).servers answers
-      by _ (WithWords words e) = plain words e (run effects m).servers
-      by _ Nobody = none_meant cause m (run effects m).servers
+      by : (effects : List Effect) (answers : Answers) → AnswersCaller m effects answers → (servers : ℕ → Option Server) → AreMeant cause m servers answers
+      by _ _ (WithWords effects words e) servers = plain words e servers
+      by _ _ (ByWaiting state) servers = none_meant cause m servers
 
   founds_serves : IsFounding m w → Serves cause m (done m (founding m w))
   founds_serves it = record {
