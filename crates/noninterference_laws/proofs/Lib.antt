@@ -20,4 +20,5 @@ pub mod StartedLemmas
 pub mod StepLemmas
 pub mod Stepping
 pub mod ThreadLemmas
+pub mod Unwound
 pub mod Veiling

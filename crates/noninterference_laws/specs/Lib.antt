@@ -6,4 +6,6 @@ pub mod Handing
 pub mod Inside
 pub mod Integrity
 pub mod KeptOthers
+pub mod SecretSum
 pub mod TwoInsides
+pub mod Unwinding

@@ -6,6 +6,7 @@
 mod inside;
 mod integrity;
 mod steps;
+mod unwinding;
 
 pub use inside::{
     handed_pages_are_enough, inside_is_unseen, registers_and_own_bytes_are_inside,
@@ -13,3 +14,4 @@ pub use inside::{
 };
 pub use integrity::{instruction_leaves_others, page_is_stored_by_one_alone};
 pub use steps::{all_keep_others, call_keeps_others, claimant_keeps_its_thread};
+pub use unwinding::{secret_sums_are_exchanged, unwound_groups_tell_alike};

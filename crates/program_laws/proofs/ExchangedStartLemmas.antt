@@ -35,7 +35,7 @@ module _ (page : PagePlan) (one other : List ℕ) (alike : FillAlike page one ot
   same_bytes = λ i. map (λ offset. same_byte offset i) (range_with_len 0 4096)
 
 -- places, rights and loans are those of the plan, whatever the file
-same_bare : (plan : BootPlan) (one other : List ℕ) → bare (first_ledger plan one) ≡ bare (first_ledger plan other)
+pub same_bare : (plan : BootPlan) (one other : List ℕ) → bare (first_ledger plan one) ≡ bare (first_ledger plan other)
 unfolding bare first_ledger
 same_bare plan one other =
     λ i. record { home = λ p. at (option_and_then (planned_page p.vpn.0) (process_of plan p.pid.0)) i; orphan = λ p. None }
@@ -43,6 +43,28 @@ same_bare plan one other =
     at : (o : Option PagePlan) → option_map bare_page (option_map (first_page one) o) ≡ option_map bare_page (option_map (first_page other) o)
     at None = refl
     at (Some page) = refl
+
+-- a page that is filled alike, or is none, holds the same
+pub held_alike : (plan : BootPlan) (one other : List ℕ) (p : Place)
+    → ((process : ProcPlan) (page : PagePlan) → process_of plan p.pid.0 ≡ Some process → planned_page p.vpn.0 process ≡ Some page
+    → FillAlike page one other)
+    → contents_of (first_ledger plan one) (Homed p) ≡ contents_of (first_ledger plan other) (Homed p)
+unfolding first_ledger
+held_alike plan one other p fills = go (process_of plan p.pid.0) refl
+  where
+    held : List ℕ → Option PagePlan → Option Page
+    held file o = option_map (first_page file) o
+
+    of_page : (process : ProcPlan) → process_of plan p.pid.0 ≡ Some process → (o : Option PagePlan) → planned_page p.vpn.0 process ≡ o
+        → option_map (λ (x : Page). x.contents) (held one o) ≡ option_map (λ (x : Page). x.contents) (held other o)
+    of_page process q None r = refl
+    of_page process q (Some page) r = ap (λ bytes. Some (Bytes bytes)) (same_bytes page one other (fills process page q r))
+
+    go : (o : Option ProcPlan) → process_of plan p.pid.0 ≡ o
+        → option_map (λ (x : Page). x.contents) (held one (option_and_then (planned_page p.vpn.0) o))
+        ≡ option_map (λ (x : Page). x.contents) (held other (option_and_then (planned_page p.vpn.0) o))
+    go None q = refl
+    go (Some process) q = of_page process q (planned_page p.vpn.0 process) refl
 
 module _ (group : Group) (plan : BootPlan) (one other : List ℕ) (differ : DifferInGroup group plan one other) where
   outsides : outside group (start plan one) ≡ outside group (start plan other)
@@ -52,23 +74,8 @@ module _ (group : Group) (plan : BootPlan) (one other : List ℕ) (differ : Diff
   -- the page at a place of a process outside the group
   same_contents : (p : Place) → group p.pid.0 ≡ false
       → contents_of (first_ledger plan one) (Homed p) ≡ contents_of (first_ledger plan other) (Homed p)
-  unfolding first_ledger
-  same_contents p outer = go (process_of plan p.pid.0) refl
-    where
-      held : List ℕ → Option PagePlan → Option Page
-      held file o = option_map (first_page file) o
-
-      of_page : (process : ProcPlan) → process_of plan p.pid.0 ≡ Some process → (o : Option PagePlan) → planned_page p.vpn.0 process ≡ o
-          → option_map (λ (x : Page). x.contents) (held one o) ≡ option_map (λ (x : Page). x.contents) (held other o)
-      of_page process q None r = refl
-      of_page process q (Some page) r =
-          ap (λ bytes. Some (Bytes bytes)) (same_bytes page one other (differ p.pid.0 process p.vpn.0 page q outer r))
-
-      go : (o : Option ProcPlan) → process_of plan p.pid.0 ≡ o
-          → option_map (λ (x : Page). x.contents) (held one (option_and_then (planned_page p.vpn.0) o))
-          ≡ option_map (λ (x : Page). x.contents) (held other (option_and_then (planned_page p.vpn.0) o))
-      go None q = refl
-      go (Some process) q = of_page process q (planned_page p.vpn.0 process) refl
+  same_contents p outer =
+      held_alike plan one other p (λ process page there planned. differ p.pid.0 process p.vpn.0 page there outer planned)
 
   seen_alike : (page : PageName) → IsSeenByOther group (start plan one) page
       → contents_of (start plan one).ledger page ≡ contents_of (start plan other).ledger page

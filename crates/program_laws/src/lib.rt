@@ -27,4 +27,4 @@ pub use splits::{ram_is_not_loaded, split_calls_end_alike, swapping_is_invisible
 pub use starting::{beginnings_are_spellable, every_state_is_spellable};
 pub use starts::{start_has_the_planned_pages, start_is_not_reserved, start_of_a_plan_is_matched};
 pub use trust::{near_pages_are_known, trusted_store_stays_trusted};
-pub use unwinding::unwound_services_tell_alike;
+pub use unwinding::{secret_sums_write_alike, unwound_services_tell_alike};

@@ -51,13 +51,13 @@ module _ (g : List ℕ → List ℕ) where
   orphan_held None = refl
   orphan_held (Some orphan) = refl
 
-  through_held : (l : Ledger) (page : PageName) → contents_of (through g l) page ≡ option_map (contents_through g) (contents_of l page)
+  pub through_held : (l : Ledger) (page : PageName) → contents_of (through g l) page ≡ option_map (contents_through g) (contents_of l page)
   unfolding through
   through_held l (Homed p) = page_held (l.home p)
   through_held l (Orphaned q) = orphan_held (l.orphan q)
 
   -- what holds what another held does with other bytes
-  alike_through : (a b : Ledger) (page old : PageName) → contents_of a page ≡ contents_of b old
+  pub alike_through : (a b : Ledger) (page old : PageName) → contents_of a page ≡ contents_of b old
       → contents_of (through g a) page ≡ contents_of (through g b) old
   alike_through a b page old e = through_held a page ∙ (ap (option_map (contents_through g)) e ∙ sym (through_held b old))
 

@@ -100,7 +100,7 @@ outcome_ledger g m (Refused error) = refl
 outcome_ledger g m Retried = refl
 outcome_ledger g m (Served change) = refl
 
-call_carries_ledger : (w : List ℕ) → CarriesLedger (λ m. ledger_after m (call m w))
+pub call_carries_ledger : (w : List ℕ) → CarriesLedger (λ m. ledger_after m (call m w))
 call_carries_ledger w g zeros m =
     outcome_ledger g m (call m w) ∙ ap (ledger_after (machine_through g m)) (call_carries g zeros m w)
 
