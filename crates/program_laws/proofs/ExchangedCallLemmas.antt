@@ -13,20 +13,21 @@ use Rattle.program_laws.proofs.OutputLemmas.{outputs_alike}
 use Rattle.xk_kernel.specs.Start.{start}
 use Rattle.xk_ports.specs.Told.{Grows}
 use Rattle.program_laws.specs.ExchangedCalls.{Exchange, HasPlan, IsExchange}
-use Rattle.xous_program.specs.Outcome.Says.{status_of}
+use Rattle.xous_program.specs.Outcome.Said.{status_of}
 use Rattle.xous_program.specs.Outcome.Sides.{Call}
-use Rattle.program_laws.specs.SplitCalls.{EndAlike, PlaysOn}
-use Rattle.program_laws.specs.Splits.{Setup}
-use Rattle.xous_program.specs.Words.{Play}
+use Rattle.xous_program.specs.Outcome.SplitCalls.{EndAlike, PlaysOn}
+use Rattle.xous_program.specs.Outcome.Splits.{Setup}
+use Rattle.xous_program.specs.Headline.{IsComplete}
+use Rattle.xous_program.specs.Words.{Play, Plays}
 use Rattle.xous_program.proofs.Images.MatchedLemmas.{no_plan_fault}
-use Rattle.program_laws.proofs.Splitting.SplitCallLemmas.{PlayedOut, out_of}
+use Rattle.program_laws.proofs.CompleteLemmas.{PlayedOut, out_of}
 use Rattle.program_laws.proofs.Splitting.SplitLemmas.{only_start}
 
 -- a call on a setup of this plan plays the events on the plan's start
 module _ (setup : Setup) (plan : BootPlan) (events : List ℕ) (play : Play) (call : Call) (has : HasPlan setup plan)
-    (plays : PlaysOn setup events play call) where
+    (plays : PlaysOn setup events play call) (complete : IsComplete (Plays play) call) where
   out : PlayedOut setup events play call
-  out = out_of setup events play call plays has.args has.sound plays.ends
+  out = out_of setup events play call plays complete
 
   starts : out.machine ≡ start plan setup.image
   starts = only_start setup out.machine has.args has.sound out.boots ∙ ap (λ (p : BootPlan). start p setup.image) (sym has.planned)
@@ -71,17 +72,18 @@ module _ (exchange : Exchange) (is : IsExchange exchange) where
 
 pub exchanged_end_alike : (exchange : Exchange) (play twin : Play) (call answer : Call) → IsExchange exchange
     → PlaysOn exchange.one exchange.events play call → PlaysOn exchange.other exchange.events twin answer
+    → IsComplete (Plays play) call → IsComplete (Plays twin) answer
     → play.tells ≡ twin.tells → play.limit ≡ exchange.limit → twin.limit ≡ exchange.limit → EndAlike call answer
-exchanged_end_alike exchange play twin call answer is plays twin_plays tells limit twin_limit =
+exchanged_end_alike exchange play twin call answer is plays twin_plays complete twin_complete tells limit twin_limit =
     let alike = write_alike exchange is in
     record {
       status =
-          status_is exchange.one exchange.plan exchange.events play call is.planned plays exchange.limit limit
+          status_is exchange.one exchange.plan exchange.events play call is.planned plays complete exchange.limit limit
           ∙ ap (status_of exchange.limit) alike.ended
-          ∙ sym (status_is exchange.other exchange.plan exchange.events twin answer is.other_planned twin_plays exchange.limit twin_limit);
+          ∙ sym (status_is exchange.other exchange.plan exchange.events twin answer is.other_planned twin_plays twin_complete exchange.limit twin_limit);
       text = output play.tells (run_of exchange.limit (start exchange.plan exchange.one.image) exchange.events);
-      written = written_is exchange.one exchange.plan exchange.events play call is.planned plays play.tells exchange.limit refl limit;
+      written = written_is exchange.one exchange.plan exchange.events play call is.planned plays complete play.tells exchange.limit refl limit;
       other_written =
           subst (λ (bytes : List ℕ). Grows answer.out.written answer.out.written_after bytes) (sym (alike.written play.tells))
-          (written_is exchange.other exchange.plan exchange.events twin answer is.other_planned twin_plays play.tells exchange.limit (sym tells) twin_limit);
+          (written_is exchange.other exchange.plan exchange.events twin answer is.other_planned twin_plays twin_complete play.tells exchange.limit (sym tells) twin_limit);
     }

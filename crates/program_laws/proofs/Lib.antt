@@ -1,4 +1,5 @@
 pub mod BegunLemmas
+pub mod CompleteLemmas
 pub mod ExchangedCallLemmas
 pub mod ExchangedStartLemmas
 pub mod Files

@@ -1,23 +1,18 @@
--- Each state of each run of an image is matched.
-use Rattle.std.proofs.Common.{◌≤◌, ℕ, List, Option}
-use Rattle.std.specs.Prelude.{IfSome}
-use Rattle.xk_base.specs.declared.events.Event.{Event}
-use Rattle.xk_base.specs.declared.limits.TheConstants.{SLOT_LIMIT}
-use Rattle.event_text.specs.EventFile.{Input}
+-- Each state of each run of a command is matched.
+use Rattle.std.proofs.Common.{ℕ}
 use Rattle.machine_model.specs.Runs.Matched.{Matched}
 use Rattle.machine_model.specs.Runs.Moments.{state_at}
-use Rattle.machine_model.specs.State.Machine.{Machine}
-use Rattle.machine_laws.specs.HistoryMoments.{moments_of}
 use Rattle.machine_laws.proofs.Histories.MomentLemmas.{history_matched, moments_matched}
-use Rattle.event_player.specs.History.{history_of}
-use Rattle.xous_program.specs.Outcome.Images.{Boots}
-use Rattle.xous_program.proofs.Images.MatchedLemmas.{booted_matched}
+use Rattle.xous_program.specs.Outcome.Said.{IsInLimits, Run, Starts, history_in, moments_in}
+use Rattle.xous_program.specs.Outcome.Sides.{Told}
+use Rattle.xous_program.specs.Words.{Command}
+use Rattle.xous_program.proofs.Headline.LawLemmas.{started_matched}
 
-pub moments_of_runs_matched : (image : List ℕ) (asked : Option ℕ) (machine : Machine) → IfSome asked (λ n. n ≤ SLOT_LIMIT) → Boots image asked machine
-    → (events : List Event) (limit i : ℕ) → Matched (state_at machine (moments_of events limit machine) i)
-moments_of_runs_matched image asked machine few boots events limit i =
-    moments_matched events limit machine (booted_matched image asked machine few boots) i
+pub moments_of_runs_matched : (file : Told) (command : Command) (run : Run) → IsInLimits command → Starts file command run
+    → (i : ℕ) → Matched (state_at run.booted.machine (moments_in run) i)
+moments_of_runs_matched file command run limits starts i =
+    moments_matched run.input.events run.limit run.booted.machine (started_matched file command run limits starts) i
 
-pub runs_matched : (image : List ℕ) (asked : Option ℕ) (machine : Machine) → IfSome asked (λ n. n ≤ SLOT_LIMIT) → Boots image asked machine
-    → (input : Input) (limit : ℕ) → Matched (history_of input limit machine).machine
-runs_matched image asked machine few boots input limit = history_matched input.events limit machine (booted_matched image asked machine few boots)
+pub runs_matched : (file : Told) (command : Command) (run : Run) → IsInLimits command → Starts file command run → Matched (history_in run).machine
+runs_matched file command run limits starts =
+    history_matched run.input.events run.limit run.booted.machine (started_matched file command run limits starts)

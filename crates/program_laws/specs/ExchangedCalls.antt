@@ -10,7 +10,7 @@ use Rattle.program_laws.specs.Exchanged.{DifferInGroup}
 use Rattle.xk_base.specs.declared.limits.TheConstants.{SLOT_LIMIT}
 use Rattle.xk_kernel.specs.Start.{start}
 use Rattle.program_status.specs.Plans.{IsSoundImage}
-use Rattle.program_laws.specs.Splits.{Setup}
+use Rattle.xous_program.specs.Outcome.Splits.{Setup}
 
 -- the image has no fault in a run of the setup's slots, and this is its plan
 pub record HasPlan (setup : Setup) (plan : BootPlan) : Type 0 where

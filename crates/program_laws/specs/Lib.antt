@@ -1,9 +1,7 @@
 pub mod Exchanged
 pub mod ExchangedCalls
-pub mod Known
+pub mod Ram
 pub mod Resumed
-pub mod SplitCalls
-pub mod Splits
 pub mod Starting
-pub mod SuspendedCalls
+pub mod Uninterrupted
 pub mod Unwinding

@@ -21,7 +21,7 @@ pub use resumed::{
     begun_run_goes_on, resumed_run_goes_on, runs_begin, suspended_calls_end_as_one,
     suspended_state_is_read,
 };
-pub use saying::{files_say_one_thing, some_steps_are_a_front};
+pub use saying::{files_say_one_thing, some_steps_are_a_front, uninterrupted_calls_are_complete};
 pub use services::{exchanged_services_tell_alike, exchanged_starts_are_alike};
 pub use splits::{ram_is_not_loaded, split_calls_end_alike, swapping_is_invisible};
 pub use starting::{beginnings_are_spellable, every_state_is_spellable};

@@ -16,7 +16,7 @@ ghost use Rattle.xous_program.specs.Outcome.Images.{Boots};
 ghost use Rattle.xous_program.specs.Outcome.Resumes.{limit_from};
 ghost use Rattle.program_laws.specs.Resumed.{IsCut, IsJoined};
 ghost use Rattle.xous_program.specs.StateFiles.{Restores};
-ghost use Rattle.program_laws.specs.SuspendedCalls.{EndAsOne, IsOneRun, TwoPartRun};
+ghost use Rattle.xous_program.specs.Headline.{SuspendingIsInvisible};
 
 /// A state is read of the bytes of each state to which events lead, and it is that one. The numbers of
 /// the state fit into words, as they do in each state that a kernel holds: of every state that `suspend`
@@ -65,9 +65,9 @@ pub fn begun_run_goes_on()
         → limit_from limit (machine_of file state) ≡ limit }
 {}
 
-/// A call of `suspend` that ends Done writes a file that isn't too long for a state file, and a call of `resume` that plays later events on
-/// it, with the slots of the run and up to the same step limit, ends as one call of `trace` does that plays all events: with its status, in
-/// which lines are counted on. `trace` writes what is told of the events before, and then what `resume` wrote.
+/// A call of `suspend` that ends Done writes a file that isn't too long for a state file, and a complete call of `resume` that plays later
+/// events on it, with the slots of the run and up to the same step limit, ends as one complete call of `trace` does that plays all events:
+/// with its status, in which lines are counted on. `trace` writes what is told of the events before, and then what `resume` wrote.
 pub fn suspended_calls_end_as_one()
-    ensures { (run : TwoPartRun) → IsOneRun run → EndAsOne run }
+    ensures { SuspendingIsInvisible }
 {}

@@ -5,16 +5,29 @@ ghost use Rattle.std.specs.Prelude.{◌≡◌, ◌≤◌, ◌++◌, ℕ, List, O
 ghost use Rattle.machine_model.specs.State.Machine.{Machine};
 ghost use Rattle.event_player.specs.declared.telling.Telling.{Telling};
 ghost use Rattle.event_player.specs.declared.ending.Ending.TheVariants.{LimitMet};
-ghost use Rattle.program_status.specs.declared.status.Status.{Status};
+ghost use Rattle.kernel_args.specs.declared.faults.ArgFault.{ArgFault};
 ghost use Rattle.event_player.specs.History.{run_of};
-ghost use Rattle.xous_program.specs.Outcome.Says.{Says};
+ghost use Rattle.program_laws.specs.Uninterrupted.{UninterruptedAreComplete};
+ghost use Rattle.xous_program.specs.Outcome.Said.{Gives, HasFault, Task};
 ghost use Rattle.event_player.specs.Telling.{output, told};
 ghost use Rattle.xous_program.specs.Words.{Command};
 
-/// Where a host tells its files, they say one status and one text at most of a command.
+/// Where a host tells its files, they give a command one task at most, and so `said` gives one status and one text. They have one first
+/// fault at most, and not both.
 pub fn files_say_one_thing()
-    ensures { (file : List ℕ → Option (List ℕ)) (command : Command) (one other : Status) (text other_text : List ℕ)
-        → Says (Some file) command one text → Says (Some file) command other other_text → (one ≡ other) × (text ≡ other_text) }
+    ensures task { (file : List ℕ → Option (List ℕ)) (command : Command) (one other : Task)
+        → Gives (Some file) command one → Gives (Some file) command other → one ≡ other }
+    ensures fault { (file : List ℕ → Option (List ℕ)) (command : Command) (one other : ArgFault)
+        → HasFault (Some file) command one → HasFault (Some file) command other → one ≡ other }
+    ensures either { (file : List ℕ → Option (List ℕ)) (command : Command) (fault : ArgFault) (task : Task)
+        → HasFault (Some file) command fault → Gives (Some file) command task → ⊥ }
+{}
+
+/// A call that has its headline, whose pages are known, that neither a fault outside nor want of memory ends, and whose first file has no
+/// fault is complete.
+#[tactic(auto, using(crate::proofs::CompleteLemmas::uninterrupted_complete))]
+pub fn uninterrupted_calls_are_complete()
+    ensures { UninterruptedAreComplete }
 {}
 
 /// What is told as the records of so many steps come, up to a limit that the history meets, is a front of all that is written of

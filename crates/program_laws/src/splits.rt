@@ -8,11 +8,10 @@ ghost use Rattle.machine_model.specs.State.Machine.{Machine};
 ghost use Rattle.event_player.specs.declared.telling.Telling.{Telling};
 ghost use Rattle.xous_program.specs.Outcome.Images.{Boots};
 ghost use Rattle.event_player.specs.History.{run_of};
-ghost use Rattle.xous_program.specs.Outcome.Sides.{Call};
-ghost use Rattle.program_laws.specs.SplitCalls.{EndAlike, PlaysOn};
-ghost use Rattle.program_laws.specs.Splits.{DifferInRam, LoadAlike, Setup, SplitOneCapacity};
+ghost use Rattle.program_laws.specs.Ram.{DifferInRam};
+ghost use Rattle.xous_program.specs.Headline.{SwappingIsInvisible};
+ghost use Rattle.xous_program.specs.Outcome.Splits.{LoadAlike, Setup, SplitOneCapacity};
 ghost use Rattle.event_player.specs.Telling.{output};
-ghost use Rattle.xous_program.specs.Words.{Play};
 
 /// Two images that differ in nothing but RAM start, RAM size and the check number over them load the same.
 pub fn ram_is_not_loaded()
@@ -33,11 +32,8 @@ pub fn swapping_is_invisible()
         → output tells (run_of limit machine events) ≡ output tells (run_of limit twin events) }
 {}
 
-/// Two calls of one command, `trace`, `run` or `ledger`, that play the same events on two such images end with one
-/// status and write the same. Neither is ended by a fault outside or want of memory, and what the pages of both runs
-/// hold is known.
+/// So two complete calls of one command, `trace`, `run` or `ledger`, that play the same events on two such images end with one status and
+/// write the same.
 pub fn split_calls_end_alike()
-    ensures { (one other : Setup) (events : List ℕ) (play twin : Play) (call answer : Call) → SplitOneCapacity one other
-        → PlaysOn one events play call → PlaysOn other events twin answer
-        → play.tells ≡ twin.tells → play.limit ≡ twin.limit → EndAlike call answer }
+    ensures { SwappingIsInvisible }
 {}

@@ -10,5 +10,8 @@ pub mod Check
 pub mod Convert
 pub mod Demo
 pub mod Ends
-pub mod Says
-pub mod Fronts
+pub mod Said
+pub mod Prefixes
+pub mod Splits
+pub mod SplitCalls
+pub mod SuspendedCalls

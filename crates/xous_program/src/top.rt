@@ -2,7 +2,7 @@
 
 ghost use Rattle.std.specs.Prelude.{◌≤◌, IfSome};
 ghost use Rattle.xous_program.specs.Outcome.Ends.{Ends};
-ghost use Rattle.xous_program.specs.Outcome.Says.{HasFewSlots};
+ghost use Rattle.xous_program.specs.Outcome.Said.{IsInLimits};
 ghost use Rattle.xous_program.specs.Outcome.Sides.{call_of, host_side, store_side};
 ghost use Rattle.program_status.specs.Notes.{Notes, sink_side};
 ghost use Rattle.xous_program.specs.Headline.{Headline};
@@ -32,7 +32,7 @@ fn run_words<H: Host, K: Sink, W: SwapStore>(
 ) -> Ended<W>
     ensures ends { let call = call_of (host_side H.Host host.old host.new) (sink_side K.Sink out.old out.new)
         (store_side W.SwapStore store result.store) result.status in Ends (command_of words.now) call }
-    ensures few { IfSome (command_of words.now) HasFewSlots }
+    ensures limits { IfSome (command_of words.now) IsInLimits }
     ensures store { W.faults store ≤ W.faults result.store }
     ensures host { H.faults host.old ≤ H.faults host.new }
     ensures out { K.faults out.old ≤ K.faults out.new }

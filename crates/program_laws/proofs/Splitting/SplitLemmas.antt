@@ -30,7 +30,8 @@ use Rattle.event_player.specs.declared.telling.Telling.{Telling}
 use Rattle.xous_program.specs.Outcome.Images.{Boots}
 use Rattle.program_status.specs.Plans.{IsSoundImage}
 use Rattle.event_player.specs.History.{run_of}
-use Rattle.program_laws.specs.Splits.{DifferInRam, LoadAlike, Setup, SplitOneCapacity, behind_row, says_ram}
+use Rattle.program_laws.specs.Ram.{DifferInRam, says_ram}
+use Rattle.xous_program.specs.Outcome.Splits.{LoadAlike, Setup, SplitOneCapacity, behind_row}
 use Rattle.event_player.specs.Telling.{output}
 use Rattle.xous_program.proofs.Images.MatchedLemmas.{no_plan_fault}
 use Rattle.program_laws.proofs.Images.MovedStartLemmas.{Shown, StandsMoved, processes_moved, room_of, shown, start_shown, started}

@@ -1,10 +1,9 @@
 -- A run that is suspended in one call and goes on in another ends as it does in one call.
-use Rattle.std.proofs.Common.{◌≡◌, ◌∙◌, ◌≤◌, ◌<◌, ap, sym, subst, refl, inl, inr, ℕ, ◌+◌, ◌-◌, ◌/◌, false, List, ◌++◌, drop, length, Option, Some, None, arith}
+use Rattle.std.proofs.Common.{◌≡◌, ◌∙◌, ◌≤◌, ◌<◌, ap, sym, subst, refl, ℕ, ◌+◌, ◌-◌, ◌/◌, List, ◌++◌, drop, length, Option, Some, arith}
 use Rattle.std.specs.Prelude.{IfSome}
 use Rattle.std.proofs.lemmas.List.{drop_at}
 use Rattle.std.proofs.lemmas.Option.{same_Some}
 use Rattle.kernel_args.specs.declared.args.Args.{Args}
-use Rattle.kernel_args.specs.declared.faults.ArgFault.{ArgFault}
 use Rattle.boot_plan.specs.Capacity.{capacity}
 use Rattle.boot_plan.specs.FirstPages.{plan_of}
 use Rattle.boot_plan.specs.Lawful.{IsLawfulPlan}
@@ -32,32 +31,29 @@ use Rattle.xk_base.specs.Numbers.Limits.{table_frames}
 use Rattle.xk_base.specs.declared.limits.TheConstants.{SLOT_LIMIT}
 use Rattle.xk_kernel.specs.Start.{start}
 use Rattle.xk_ports.specs.Told.{Grows}
-use Rattle.event_player.specs.declared.ending.Ending.TheVariants.{Played}
+use Rattle.event_player.specs.declared.ending.Ending.{Ending}
+use Rattle.event_player.specs.declared.ending.Ending.TheVariants.{Played, LimitMet, BadLine}
 use Rattle.event_player.specs.declared.telling.Telling.{Telling}
 use Rattle.event_player.specs.declared.telling.Telling.TheVariants.{Trace}
-use Rattle.event_player.specs.History.{run_of}
+use Rattle.event_player.specs.History.{History, run_of}
 use Rattle.event_player.specs.Telling.{output, told}
 use Rattle.xous_program.specs.declared.commands.states.TheConstants.{STATE_LIMIT}
-use Rattle.program_status.specs.declared.status.Status.{Status}
-use Rattle.program_status.specs.declared.status.Status.TheVariants.{Done, Usage, ReadFault, WriteFault, ImageFault, EventFault, StepLimit, SwapFault, NoMemory}
-use Rattle.xous_program.specs.Outcome.Images.{Boots, Refuses, plan_in}
+use Rattle.program_status.specs.declared.status.Status.TheVariants.{Done, EventFault, StepLimit}
+use Rattle.xous_program.specs.Headline.{IsComplete, SuspendingIsInvisible}
+use Rattle.xous_program.specs.Outcome.Images.{Boots}
 use Rattle.program_status.specs.Plans.{IsSoundImage}
-use Rattle.xous_program.specs.Outcome.Resumes.{EndsResume, EndsResumed, limit_from, resumed_on, traced}
-use Rattle.xous_program.specs.Outcome.Says.{status_of}
-use Rattle.xous_program.specs.Outcome.Sides.{Call, HostRose, StoreSide}
-use Rattle.xous_program.specs.Outcome.Starts.{Stops, StopsIn, booted_of}
-use Rattle.event_player.specs.Rooms.{Room}
-use Rattle.xous_program.specs.Outcome.States.{RefusesState, room_from}
-use Rattle.xous_program.specs.Outcome.Suspends.{EndsSaved, EndsSuspend, Saves}
-use Rattle.program_laws.specs.SplitCalls.{is_cut_short}
-use Rattle.program_laws.specs.Splits.{Setup}
-use Rattle.xous_program.specs.StateFiles.{IsStateFault, Restores}
-use Rattle.program_laws.specs.SuspendedCalls.{EndAsOne, GoesOn, IsOneRun, Suspends, TwoPartRun, behind_lines}
-use Rattle.xous_program.specs.Words.{Resume, Suspend}
+use Rattle.xous_program.specs.Outcome.Resumes.{limit_from}
+use Rattle.xous_program.specs.Outcome.Said.{Converting, Gives, GivesRun, IsSaved, Planning, Run, Running, Task, history_in, said, status_of}
+use Rattle.xous_program.specs.Outcome.Sides.{Call}
+use Rattle.xous_program.specs.Outcome.Splits.{Setup}
+use Rattle.xous_program.specs.Outcome.Suspends.{saved_at}
+use Rattle.xous_program.specs.Outcome.SuspendedCalls.{EndAsOne, GoesOn, IsOneRun, SavesTo, TwoPartRun, behind_lines}
+use Rattle.xous_program.specs.StateFiles.{Restores}
+use Rattle.xous_program.specs.Words.{Plays, Resume, Resumes, Suspend, Suspends}
 use Rattle.xous_program.proofs.Images.MatchedLemmas.{no_plan_fault}
-use Rattle.program_laws.proofs.Files.StateLemmas.{one_machine, restored_no_fault}
+use Rattle.program_laws.proofs.CompleteLemmas.{PlayedOut, out_of, same_history}
+use Rattle.program_laws.proofs.Files.StateLemmas.{one_machine}
 use Rattle.program_laws.proofs.ResumedLemmas.{within_limit}
-use Rattle.program_laws.proofs.Splitting.SplitCallLemmas.{PlayedOut, not_whole, out_of, ran}
 use Rattle.program_laws.proofs.Splitting.SplitLemmas.{only_start}
 use Rattle.program_laws.proofs.Suspended.RunLemmas.{IsBehind, runs_behind, status_behind, told_behind}
 
@@ -82,38 +78,52 @@ grown_once before state text old new is became grows =
         let all : before ++ state ≡ before ++ text = g.2 ∙ ap (λ (front : List ℕ). front ++ text) (sym first) in
         sym (drop_at before state (length before) refl) ∙ (ap (λ (l : List ℕ). drop (length before) l) all ∙ drop_at before text (length before) refl)
 
-module _ (setup : Setup) (events state : List ℕ) (suspend : Suspend) (call : Call) (s : Suspends setup events state suspend call) where
+-- a status of Done is that of a history whose events were all played
+done_played : (limit : ℕ) (ending : Ending) → status_of limit ending ≡ Done → ending ≡ Played
+done_played limit Played e = refl
+done_played limit LimitMet e = absurd (let differ : StepLimit limit ≡ Done = e in cc)
+done_played limit (BadLine line) e = absurd (let differ : EventFault line ≡ Done = e in cc)
+
+module _ (setup : Setup) (events state : List ℕ) (suspend : Suspend) (call : Call) (s : SavesTo setup events state suspend call) where
   is_bytes : (name bytes whole : List ℕ) → s.files name ≡ Some whole → IsFile call.host.files name bytes → bytes ≡ whole
   is_bytes name bytes whole file read =
       same_Some bytes whole (sym (subst (λ (files : Option (List ℕ → Option (List ℕ))). IsFile files name bytes) s.told read) ∙ file)
 
-  saved_out : EndsSaved suspend call → SavedOut setup events state suspend.limit
-  saved_out e =
-      let image = e.image in
-      let boots : Boots setup.image setup.asked e.machine =
-      subst (λ (asked : Option ℕ). Boots setup.image asked e.machine) s.slots
-      (subst (λ (bytes : List ℕ). Boots bytes suspend.slots e.machine) (is_bytes suspend.image image.bytes setup.image s.image image.read) image.boots) in
-      let r = subst (λ (status : Status). Saves suspend (booted_of (plan_in image) e.machine) call status) s.done e.content in
-      let wrote = r.exact (s.known e.machine image r.events r.is_file) in
-      let same : r.events ≡ events = is_bytes suspend.events r.events events s.event_file r.is_file in
-      let saved : state ≡ saved_bytes (run_of suspend.limit e.machine r.events).machine =
-      grown_once s.before state (saved_bytes (run_of suspend.limit e.machine r.events).machine) call.out.written call.out.written_after
-      s.unwritten s.written wrote.written in
-      subst (λ (bytes : List ℕ). SavedOut setup bytes state suspend.limit) same (record {
-        machine = e.machine;
+  run_saved : (run : Run) → GivesRun call.host.files (Suspends suspend) run → call.status ≡ (said (Suspends suspend) (Running run)).status
+      → Grows call.out.written call.out.written_after (said (Suspends suspend) (Running run)).text → IsSaved (Suspends suspend) (Running run)
+      → SavedOut setup events state suspend.limit
+  run_saved run given status written spelled =
+      let starts = given.starts in
+      let image = starts.image in
+      let boots : Boots setup.image setup.asked starts.machine =
+      subst (λ (asked : Option ℕ). Boots setup.image asked starts.machine) s.slots
+      (subst (λ (bytes : List ℕ). Boots bytes suspend.slots starts.machine) (is_bytes suspend.image image.bytes setup.image s.image image.read) image.boots) in
+      let input : run.input ≡ input_of events =
+      given.events.2 ∙ ap input_of (is_bytes suspend.events given.events.0 events s.event_file given.events.1) in
+      let same : history_in run ≡ run_of suspend.limit starts.machine events =
+      same_history run starts.machine suspend.limit (input_of events) (ap (λ b. b.machine) starts.booted) starts.limit input in
+      let ended : (history_in run).ending ≡ Played = done_played run.limit (history_in run).ending (sym status ∙ s.done) in
+      let wrote : Grows call.out.written call.out.written_after (saved_bytes (history_in run).machine) =
+      subst (λ (e : Ending). Grows call.out.written call.out.written_after (saved_at (history_in run).machine e)) ended written in
+      let saved : state ≡ saved_bytes (history_in run).machine =
+      grown_once s.before state (saved_bytes (history_in run).machine) call.out.written call.out.written_after s.unwritten s.written wrote in
+      record {
+        machine = starts.machine;
         boots = boots;
-        played = wrote.ended;
-        spellable = wrote.spelled;
-        saved = saved;
-      })
+        played = sym (ap (λ (h : History). h.ending) same) ∙ ended;
+        spellable = subst (λ (h : History). IsSpellable h.machine) same (spelled ended);
+        saved = saved ∙ ap (λ (h : History). saved_bytes h.machine) same;
+      }
 
-  suspended : EndsSuspend suspend call → SavedOut setup events state suspend.limit
-  suspended (inl refused) =
-      absurd (subst (λ (status : Status). Refuses call.host.files suspend.image suspend.slots (HostRose call) status) s.done refused.image.refused)
-  suspended (inr (inl unstarted)) =
-      absurd (subst (λ (status : Status). Stops (plan_in unstarted.image) None unstarted.machine call.store status) s.done unstarted.stopped)
-  suspended (inr (inr (inl unpicked))) = absurd (not_whole (sym (ap is_cut_short unpicked.ended) ∙ ap is_cut_short s.done))
-  suspended (inr (inr (inr e))) = saved_out e
+  task_saved : (task : Task) → Gives call.host.files (Suspends suspend) task → call.status ≡ (said (Suspends suspend) task).status
+      → Grows call.out.written call.out.written_after (said (Suspends suspend) task).text → IsSaved (Suspends suspend) task
+      → SavedOut setup events state suspend.limit
+  task_saved (Running run) given status written spelled = run_saved run given status written spelled
+  task_saved (Planning plan) given status written spelled = absurd given
+  task_saved (Converting bytes) given status written spelled = absurd given
+
+  suspended : IsComplete (Suspends suspend) call → SavedOut setup events state suspend.limit
+  suspended complete = task_saved complete.task complete.given complete.status complete.written complete.saved
 
 -- ---- a run goes on from its file
 
@@ -199,72 +209,53 @@ record WentOn (machine : Machine) (events : List ℕ) (limit : ℕ) (call : Call
   status : call.status ≡ status_of limit (run_of limit machine events).ending
   written : Grows call.out.written call.out.written_after (output Trace (run_of limit machine events))
 
-not_stopped_in : (room : Room) (slots : ℕ) (name : Option (List ℕ)) (machine : Machine) (store : StoreSide) (status : Status)
-    → StopsIn room slots name machine store status → is_cut_short status ≡ false → ⊥
-not_stopped_in room slots name machine store NoMemory s whole = not_whole whole
-not_stopped_in room slots name machine store SwapFault s whole = not_whole whole
-not_stopped_in room slots name machine store Done s whole = s
-not_stopped_in room slots name machine store Usage s whole = s
-not_stopped_in room slots name machine store ReadFault s whole = s
-not_stopped_in room slots name machine store WriteFault s whole = s
-not_stopped_in room slots name machine store (ImageFault fault) s whole = s
-not_stopped_in room slots name machine store (EventFault line) s whole = s
-not_stopped_in room slots name machine store (StepLimit limit) s whole = s
-
 module _ (many : ℕ) (state events : List ℕ) (resume : Resume) (call : Call) (g : GoesOn many state events resume call)
     (machine : Machine) (file : Restores state many machine) where
   are_bytes : (name bytes whole : List ℕ) → g.files name ≡ Some whole → IsFile call.host.files name bytes → bytes ≡ whole
   are_bytes name bytes whole named read =
       same_Some bytes whole (sym (subst (λ (files : Option (List ℕ → Option (List ℕ))). IsFile files name bytes) g.told read) ∙ named)
 
-  no_fault : (bytes : List ℕ) (fault : ArgFault) → IsFile call.host.files resume.state bytes → IsStateFault bytes resume.slots fault → ⊥
-  no_fault bytes fault read faulty =
-      let same = are_bytes resume.state bytes state g.state_file read in
-      restored_no_fault state many machine fault file
-      (subst (λ (slots : ℕ). IsStateFault state slots fault) g.slots (subst (λ (b : List ℕ). IsStateFault b resume.slots fault) same faulty))
+  run_resumed : (run : Run) → GivesRun call.host.files (Resumes resume) run → call.status ≡ (said (Resumes resume) (Running run)).status
+      → Grows call.out.written call.out.written_after (said (Resumes resume) (Running run)).text → WentOn machine events (limit_from resume.limit machine) call
+  run_resumed run given status written =
+      let starts = given.starts in
+      let there : Restores state many starts.machine =
+      subst (λ (slots : ℕ). Restores state slots starts.machine) g.slots
+      (subst (λ (b : List ℕ). Restores b resume.slots starts.machine) (are_bytes resume.state starts.state.bytes state g.state_file starts.state.read)
+      starts.state.restores) in
+      let same : starts.machine ≡ machine = one_machine state many starts.machine machine there file in
+      let input : run.input ≡ input_of events =
+      given.events.2 ∙ ap input_of (are_bytes resume.events given.events.0 events g.event_file given.events.1) in
+      let most : run.limit ≡ limit_from resume.limit machine = starts.limit ∙ ap (limit_from resume.limit) same in
+      let history : history_in run ≡ run_of (limit_from resume.limit machine) machine events =
+      same_history run machine (limit_from resume.limit machine) (input_of events) (ap (λ b. b.machine) starts.booted ∙ same) most input in
+      record {
+        status =
+            status ∙ (ap (λ (h : History). status_of run.limit h.ending) history
+            ∙ ap (λ (l : ℕ). status_of l (run_of (limit_from resume.limit machine) machine events).ending) most);
+        written = subst (λ (bytes : List ℕ). Grows call.out.written call.out.written_after bytes) (ap (output Trace) history) written;
+      }
 
-  not_unread : (status : Status) → RefusesState call.host.files resume.state resume.slots (HostRose call) status → is_cut_short status ≡ false → ⊥
-  not_unread (ImageFault fault) r whole = no_fault r.0 fault r.1 r.2
-  not_unread ReadFault r whole = not_whole whole
-  not_unread NoMemory r whole = not_whole whole
-  not_unread Done r whole = r
-  not_unread Usage r whole = r
-  not_unread SwapFault r whole = r
-  not_unread (EventFault line) r whole = r
-  not_unread (StepLimit limit) r whole = r
-  not_unread WriteFault r whole = r
+  task_resumed : (task : Task) → Gives call.host.files (Resumes resume) task → call.status ≡ (said (Resumes resume) task).status
+      → Grows call.out.written call.out.written_after (said (Resumes resume) task).text → WentOn machine events (limit_from resume.limit machine) call
+  task_resumed (Running run) given status written = run_resumed run given status written
+  task_resumed (Planning plan) given status written = absurd given
+  task_resumed (Converting bytes) given status written = absurd given
 
-  resumed_out : EndsResumed resume call → WentOn machine events (limit_from resume.limit machine) call
-  resumed_out e =
-      let there : Restores state many e.machine =
-      subst (λ (slots : ℕ). Restores state slots e.machine) g.slots
-      (subst (λ (b : List ℕ). Restores b resume.slots e.machine) (are_bytes resume.state e.state.bytes state g.state_file e.state.read) e.state.restores) in
-      let same : e.machine ≡ machine = one_machine state many e.machine machine there file in
-      let r = ran (traced resume e.machine) (resumed_on e.machine resume.slots) call call.status e.content e.cause g.whole in
-      let wrote = r.1.exact (g.known e.machine r.1.events e.state r.1.is_file) in
-      let bytes : r.1.events ≡ events = are_bytes resume.events r.1.events events g.event_file r.1.is_file in
-      subst (λ (m : Machine). WentOn m events (limit_from resume.limit m) call) same
-      (subst (λ (b : List ℕ). WentOn e.machine b (limit_from resume.limit e.machine) call) bytes (record {
-        status = r.2 ∙ ap (status_of (limit_from resume.limit e.machine)) (sym wrote.ended);
-        written = wrote.written;
-      }))
-
-  went_on : EndsResume resume call → WentOn machine events (limit_from resume.limit machine) call
-  went_on (inl unread) = absurd (not_unread call.status unread.refused g.whole)
-  went_on (inr (inl unresumed)) = absurd (not_stopped_in (room_from unresumed.machine resume.slots) resume.slots None unresumed.machine call.store call.status unresumed.stopped g.whole)
-  went_on (inr (inr (inl unpicked))) = absurd (not_whole (sym (ap is_cut_short unpicked.ended) ∙ g.whole))
-  went_on (inr (inr (inr e))) = resumed_out e
+  went_on : IsComplete (Resumes resume) call → WentOn machine events (limit_from resume.limit machine) call
+  went_on complete = task_resumed complete.task complete.given complete.status complete.written
 
 -- ---- all three
 
-module _ (run : TwoPartRun) (is : IsOneRun run) where
+module _ (run : TwoPartRun) (is : IsOneRun run) (saves : IsComplete (Suspends run.suspend) run.first)
+    (goes_on : IsComplete (Resumes run.resume) run.second) (plays : IsComplete (Plays run.play) run.whole) where
   saved : SavedOut run.setup run.before run.state run.play.limit
   saved =
       subst (SavedOut run.setup run.before run.state) is.suspend_limit
-      (suspended run.setup run.before run.state run.suspend run.first is.suspends is.suspends.ends)
+      (suspended run.setup run.before run.state run.suspend run.first is.suspends saves)
 
   whole : PlayedOut run.setup (run.before ++ run.after) run.play run.whole
-  whole = out_of run.setup (run.before ++ run.after) run.play run.whole is.plays run.args is.sound is.plays.ends
+  whole = out_of run.setup (run.before ++ run.after) run.play run.whole is.plays plays
 
   abbrev begun : Machine
   begun = start (plan_of run.args run.setup.asked) run.setup.image
@@ -302,7 +293,7 @@ module _ (run : TwoPartRun) (is : IsOneRun run) where
   second : WentOn last run.after run.play.limit run.second
   second =
       subst (λ limit. WentOn last run.after limit run.second) limit_stays
-      (went_on (slots_used run.args run.setup.asked) run.state run.after run.resume run.second is.goes_on last file is.goes_on.ends)
+      (went_on (slots_used run.args run.setup.asked) run.state run.after run.resume run.second is.goes_on last file goes_on)
 
   behind : IsBehind (length (lines_of run.before)) (run_of run.play.limit saved.machine (run.before ++ run.after))
       (run_of run.play.limit saved.machine run.before) (run_of run.play.limit last run.after)
@@ -331,3 +322,6 @@ module _ (run : TwoPartRun) (is : IsOneRun run) where
         written = second.written;
         whole_written = subst (λ (text : List ℕ). Grows run.whole.out.written run.whole.out.written_after text) told_all whole.written;
       }
+
+pub suspending_invisible : SuspendingIsInvisible
+suspending_invisible = ends_as_one

@@ -17,9 +17,9 @@ use Rattle.event_player.specs.declared.ending.Ending.TheVariants.{Played, LimitM
 use Rattle.event_player.specs.declared.telling.Telling.TheVariants.{Trace}
 use Rattle.event_player.specs.History.{History, end_of, history_of, run_of}
 use Rattle.event_player.specs.Telling.{closing, output, told, told_of}
-use Rattle.xous_program.specs.Outcome.Says.{status_of}
+use Rattle.xous_program.specs.Outcome.Said.{status_of}
 use Rattle.program_laws.specs.Resumed.{IsJoined}
-use Rattle.program_laws.specs.SuspendedCalls.{behind_lines}
+use Rattle.xous_program.specs.Outcome.SuspendedCalls.{behind_lines}
 use Rattle.program_laws.proofs.ResumedLemmas.{unmet_joined}
 
 -- ---- endings

@@ -1,7 +1,7 @@
 -- The parts of a call, put together.
-use Rattle.std.proofs.Common.{◌≡◌, ◌≤◌, inl, inr, ℕ, Bool, List, [], ◌∷◌, ◌++◌, Option, true, false, sym, ap, ◌∙◌, subst, arith}
+use Rattle.std.proofs.Common.{◌≡◌, ◌≤◌, inl, inr, ℕ, Bool, List, [], ◌∷◌, ◌++◌, Option, Some, None, true, false, refl, sym, ap, ◌∙◌, subst, arith}
 use Rattle.xk_base.specs.Outside.{Rose}
-use Rattle.xk_ports.specs.Host.{FileAsked}
+use Rattle.xk_ports.specs.Host.{FileAsked, IsLeftOf}
 use Rattle.xk_ports.specs.Store.{StoreAsked}
 use Rattle.xk_ports.specs.Told.{Grows, GrowsByProperPrefix}
 use Rattle.xk_ports.specs.declared.host.FileSlot.TheVariants.{First, Second}
@@ -17,7 +17,7 @@ use Rattle.xous_program.specs.Finish.{EndsBooted, Finishes, Starts}
 use Rattle.event_player.specs.History.{History, MayEnd, run_of}
 use Rattle.xous_program.specs.Outcome.Ends.{Ends}
 use Rattle.xous_program.specs.Outcome.Plays.{AsksBoth, EndsPlay, HasCause, Ran, RanWholeLines, Tells}
-use Rattle.xous_program.specs.Outcome.Sides.{Call, Prepares, StoreSide, Told}
+use Rattle.xous_program.specs.Outcome.Sides.{Call, HasFile, Prepares, StoreSide, Told}
 use Rattle.event_player.specs.Rooms.{Room}
 use Rattle.xous_program.specs.Outcome.Starts.{Booted, KnowsPages, room_of}
 use Rattle.xous_program.specs.Outcome.Images.{plan_in}
@@ -55,6 +55,11 @@ pub part_of_whole : (tells : Telling) (before after : Option (List ℕ)) (h : Hi
 part_of_whole tells before after h front = front_longer before after (told tells h.records) (closing tells h.machine h.ending) front
 
 -- ---- the event file
+
+-- a file that was opened is there
+pub has_file : (file : Told) (name : List ℕ) (left : Option (List ℕ)) → IsLeftOf file name left → HasFile file name
+has_file None name left of = tt
+has_file (Some file) name left of = (of file refl).0
 
 pub finished_cause : (play : Play) (room : Room) (machine last : Machine) (call : Call) (mid : Option (List ℕ)) (faults : ℕ) (ending : Ending) (status : Status)
     → call.out.faults ≤ faults
@@ -162,7 +167,7 @@ ran_earlier play booted before call ending ran = record {
 pub lines_earlier : (play : Play) (booted : Booted) (before : Before) (call : Call) → RanWholeLines play booted call
     → RanWholeLines play booted (begun_at call.host.files before call)
 lines_earlier play booted before call ran =
-    record { bytes = ran.bytes; read = ran.read; may = ran.may; exact = λ known. ran.exact known; silent = λ silent. ran.silent silent }
+    record { there = ran.there; bytes = ran.bytes; read = ran.read; may = ran.may; exact = λ known. ran.exact known; silent = λ silent. ran.silent silent }
 
 pub tells_earlier : (play : Play) (booted : Booted) (before : Before) (call : Call) (status : Status) → Tells play booted call status
     → Tells play booted (begun_at call.host.files before call) status

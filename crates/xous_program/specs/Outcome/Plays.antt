@@ -13,7 +13,7 @@ use Rattle.program_status.specs.declared.status.Status.TheVariants.{Done, ReadFa
 use Rattle.program_status.specs.declared.status.Status.TheVariants.{SwapFault}
 use Rattle.event_player.specs.History.{MayEnd, run_of}
 use Rattle.xous_program.specs.Outcome.Images.{EndsUnplanned, Image, plan_in}
-use Rattle.xous_program.specs.Outcome.Sides.{Call, HostRose, IsTrusted, IsUnprepared, IsUnwritten, OutRose, Prepares, StoreRose}
+use Rattle.xous_program.specs.Outcome.Sides.{Call, HasFile, HostRose, IsTrusted, IsUnprepared, IsUnwritten, OutRose, Prepares, StoreRose}
 use Rattle.event_player.specs.Rooms.{ComesFull, Room}
 use Rattle.xous_program.specs.Outcome.Starts.{Booted, KnowsPages, Stops, booted_of, room_of}
 use Rattle.host_io.specs.Reading.{Asked, IsFile, IsReadOf, IsTold}
@@ -60,9 +60,11 @@ pub record RanSomeSteps (play : Play) (booted : Booted) (call : Call) : Type 0 w
   pub exact : IsTrusted call.store booted.slots → WroteSteps play booted call events
   pub silent : IsSilent play call
 
--- Some bytes of the file were read, and none of their whole lines is bad. Where what the pages hold is known, the history over these lines
--- doesn't meet the limit, and exactly what the command tells as its records come was written. `ledger` wrote nothing, known or not.
+-- The file is there, some of its bytes were read, and none of their whole lines is bad. Where what the pages hold is known, the history
+-- over these lines doesn't meet the limit, and exactly what the command tells as its records come was written. `ledger` wrote nothing,
+-- known or not.
 pub record RanWholeLines (play : Play) (booted : Booted) (call : Call) : Type 0 where
+  pub there : HasFile call.host.files play.events
   pub bytes : List ℕ
   pub read : IsReadOf call.host.files play.events call.host.left bytes
   pub may : MayEnd (input_of (whole_lines bytes)) Played

@@ -1,6 +1,6 @@
 -- What a call meets outside, before it and after it. What is said of the bytes of files, of what stands on `out` and of the preparations
 -- asked for holds where they are told; what is said of counts of faults rests on nothing.
-use Rattle.std.specs.Prelude.{◌≡◌, ◌==◌, ◌||◌, ℕ, Bool, IsTrue, List, [], ◌∷◌, Option}
+use Rattle.std.specs.Prelude.{◌≡◌, ◌==◌, ◌||◌, ℕ, Bool, IsSome, IsTrue, List, [], ◌∷◌, Option, Some, None}
 use Rattle.xk_base.specs.Outside.{Rose}
 use Rattle.xk_ports.specs.declared.host.Host.{Ghosts as Host}
 use Rattle.xk_ports.specs.declared.store.SwapStore.{Ghosts as SwapStore}
@@ -15,6 +15,11 @@ use Rattle.program_status.specs.declared.status.Status.{Status}
 -- the files of the host by their names, where they are told
 abbrev pub Told : Type 0
 Told = Option (List ℕ → Option (List ℕ))
+
+-- the host has a file of that name, where it tells its files
+abbrev pub HasFile : Told → List ℕ → Type 0
+HasFile None name = Unit {0}
+HasFile (Some file) name = IsSome (file name)
 
 -- What a call meets at the host: the files that it has; the files asked for, before the call and after it; what is left of the image and of
 -- the event file; and the count of faults, before and after.

@@ -3,7 +3,7 @@
 ghost use Rattle.std.specs.Prelude.{◌≡◌, ◌≤◌, IfSome};
 ghost use Rattle.std.specs.Option.{option_map};
 ghost use Rattle.xk_base.specs.declared.limits.TheConstants.{SLOT_LIMIT, STEP_LIMIT};
-ghost use Rattle.xous_program.specs.Outcome.Says.{HasFewSlots};
+ghost use Rattle.xous_program.specs.Outcome.Said.{IsInLimits};
 ghost use Rattle.xous_program.specs.Words.{check_in, check_of, convert_of, command_in, command_of, demo_of, limit_of, play_in, play_of};
 ghost use Rattle.xous_program.specs.Words.{play_with, resume_in, resume_of, resume_with};
 ghost use Rattle.xous_program.specs.Words.{slots_of, suspend_in, suspend_of, suspend_with};
@@ -196,7 +196,7 @@ fn read_resume<'a>(words: &'a [String]) -> Option<ResumeWords<'a>>
 #[tactic(auto, unfolding(crate::specs::Words::command_of))]
 pub fn read_words<'a>(words: &'a [String]) -> Option<CommandWords<'a>>
     ensures read { option_map command_in result ≡ command_of words.now }
-    ensures few { IfSome (command_of words.now) HasFewSlots }
+    ensures limits { IfSome (command_of words.now) IsInLimits }
 {
     let (first, rest) = words.split_first()?;
     match first.as_str() {

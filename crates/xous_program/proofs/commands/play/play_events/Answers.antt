@@ -23,7 +23,7 @@ use Rattle.xous_program.specs.Words.{Play, play_in}
 use Rattle.host_io.proofs.ReadingLemmas.{told_file, read_of_file}
 use Rattle.event_player.proofs.Playing.StandingLemmas.{room_stays}
 use Rattle.xous_program.proofs.Outcome.TrustLemmas.{booted_on, full_on, known_side, trusted_side}
-use Rattle.xous_program.proofs.Outcome.TopLemmas.{finished_cause, finished_tells, part_of_whole, rose_after}
+use Rattle.xous_program.proofs.Outcome.TopLemmas.{finished_cause, finished_tells, has_file, part_of_whole, rose_after}
 use Rattle.xous_program.proofs.commands.play.play_events.Goals as goal
 
 pub returns-in-Ok-play_file-clause-played : goal.returns-in-Ok-play_file-clause-played
@@ -73,6 +73,7 @@ returns-in-Err-Read-clause-played g c = λ start begins.
           rose_after (faults c.args.host.now) (faults c.pick_file.new.self) (faults c.play_file.new.host) c.pick_file.ensures.never_falls
           (c.in-Err-Read.ensures.read (ap (λ (f : RunFault). Err f) c.in-Err-Read.field-0-is)));
       content = record {
+        there = has_file file c.args.play.events.now before c.in-Ok.ensures.left;
         bytes = runs.read;
         read = read_of_file file c.args.play.events.now before left runs.read c.in-Ok.ensures.left runs.taken;
         may = runs.may;

@@ -22,7 +22,7 @@ use Rattle.event_player.specs.Standing.{Stand, room_in, stand}
 use Rattle.xous_program.specs.Words.{Play, Suspend, suspend_in}
 use Rattle.event_player.proofs.Playing.KeptLemmas.{kept_after}
 use Rattle.xous_program.proofs.Outcome.SuspendLemmas.{full_where_out, last_reserver, part_of_saved, room_kept, saved_cause, saved_tells, untouched}
-use Rattle.xous_program.proofs.Outcome.TopLemmas.{rose_after}
+use Rattle.xous_program.proofs.Outcome.TopLemmas.{has_file, rose_after}
 use Rattle.host_io.proofs.ReadingLemmas.{told_file, read_of_file}
 use Rattle.event_player.proofs.Playing.StandingLemmas.{room_stays}
 use Rattle.xous_program.proofs.Outcome.TrustLemmas.{booted_on, full_on, known_before, known_means, known_side, known_start}
@@ -150,6 +150,7 @@ returns-in-Err-Read-clause-played g c = λ start begins.
           (c.in-Err-Read.ensures.read (ap (λ (f : RunFault). Err f) c.in-Err-Read.field-0-is)));
       content = (
         record {
+          there = has_file file c.args.suspend.events.now before c.in-Ok.ensures.left;
           bytes = runs.read;
           read = read_of_file file c.args.suspend.events.now before left runs.read c.in-Ok.ensures.left runs.taken;
           may = runs.may;

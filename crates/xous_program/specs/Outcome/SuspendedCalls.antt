@@ -1,5 +1,5 @@
 -- Two calls, one that suspends a run and one that goes on from its state file, and the one call that plays the events of both.
-use Rattle.std.specs.Prelude.{◌≡◌, ◌≤◌, ℕ, ◌+◌, false, List, ◌++◌, length, IfSome, Option, Some}
+use Rattle.std.specs.Prelude.{◌≡◌, ◌≤◌, ℕ, ◌+◌, List, ◌++◌, length, IfSome, Option, Some}
 use Rattle.kernel_args.specs.declared.args.Args.{Args}
 use Rattle.boot_plan.specs.Slots.{slots_used}
 use Rattle.event_text.specs.Joined.{CanJoin}
@@ -16,44 +16,35 @@ use Rattle.program_status.specs.declared.status.Status.TheVariants.{Done, Usage,
 use Rattle.program_status.specs.declared.status.Status.TheVariants.{SwapFault, NoMemory}
 use Rattle.xous_program.specs.Outcome.Images.{Boots}
 use Rattle.program_status.specs.Plans.{IsSoundImage}
-use Rattle.xous_program.specs.Outcome.Resumes.{EndsResume}
 use Rattle.xous_program.specs.Outcome.Sides.{Call}
-use Rattle.xous_program.specs.Outcome.Suspends.{EndsSuspend, silent}
-use Rattle.program_laws.specs.Known.{IsKnownPlay, IsKnownResume}
-use Rattle.program_laws.specs.SplitCalls.{PlaysOn, is_cut_short}
-use Rattle.program_laws.specs.Splits.{Setup}
+use Rattle.xous_program.specs.Outcome.SplitCalls.{PlaysOn}
+use Rattle.xous_program.specs.Outcome.Splits.{Setup}
 use Rattle.xous_program.specs.Words.{Play, Resume, Suspend}
 
 -- ---- the calls
 
--- `suspend` plays these events on the image of the setup, for its slots, ends Done, and writes these bytes to an output that tells what
--- stands on it. The host tells its files, and what the pages of the run hold is known.
-pub record Suspends (setup : Setup) (events state : List ℕ) (suspend : Suspend) (call : Call) : Type 0 where
+-- `suspend` is to play these events on the image of the setup, for its slots. It ends Done, and writes these bytes to an output that tells
+-- what stands on it. The host tells its files.
+pub record SavesTo (setup : Setup) (events state : List ℕ) (suspend : Suspend) (call : Call) : Type 0 where
   pub slots : suspend.slots ≡ setup.asked
   pub files : List ℕ → Option (List ℕ)
   pub told : call.host.files ≡ Some files
   pub image : files suspend.image ≡ Some setup.image
   pub event_file : files suspend.events ≡ Some events
-  pub known : IsKnownPlay (silent suspend) call
   pub done : call.status ≡ Done
-  pub ends : EndsSuspend suspend call
   pub before : List ℕ
   pub unwritten : call.out.written ≡ Some before
   pub written : call.out.written_after ≡ Some (before ++ state)
 
--- `resume` plays these events from a file of these bytes, with so many slots, and neither a fault outside nor want of memory ends the
--- call. The host tells its files, and what the pages of the run hold is known.
+-- `resume` is to play these events from a file of these bytes, with so many slots. The host tells its files.
 pub record GoesOn (many : ℕ) (state events : List ℕ) (resume : Resume) (call : Call) : Type 0 where
   pub slots : resume.slots ≡ many
   pub files : List ℕ → Option (List ℕ)
   pub told : call.host.files ≡ Some files
   pub state_file : files resume.state ≡ Some state
   pub event_file : files resume.events ≡ Some events
-  pub known : IsKnownResume resume call
-  pub whole : is_cut_short call.status ≡ false
-  pub ends : EndsResume resume call
 
--- a run in two calls and in one: its setup, the image's arguments, the event files before and after, the state file, and the calls
+-- A run in two calls and in one: a setup, the image's arguments, the event files before and after, the state file, and the calls.
 pub record TwoPartRun : Type 0 where
   pub setup : Setup
   pub args : Args
@@ -67,13 +58,13 @@ pub record TwoPartRun : Type 0 where
   pub play : Play
   pub whole : Call
 
--- The image has no fault in a run of the setup's slots. `suspend` plays the events before, `resume` those after on its state file with
--- the slots of the run, and `trace` plays both, all three up to one step limit.
+-- The calls play one run. `suspend` plays the events before, `resume` those after on its state file with the slots of the run, and `trace`
+-- plays both, all three up to one step limit. The image has no fault in a run of the setup's slots.
 pub record IsOneRun (run : TwoPartRun) : Type 0 where
   pub few : IfSome run.setup.asked (λ n. n ≤ SLOT_LIMIT)
   pub sound : IsSoundImage run.setup.image run.setup.asked run.args
   pub files : CanJoin run.before run.after
-  pub suspends : Suspends run.setup run.before run.state run.suspend run.first
+  pub suspends : SavesTo run.setup run.before run.state run.suspend run.first
   pub goes_on : GoesOn (slots_used run.args run.setup.asked) run.state run.after run.resume run.second
   pub plays : PlaysOn run.setup (run.before ++ run.after) run.play run.whole
   pub traces : run.play.tells ≡ Trace
@@ -94,8 +85,8 @@ behind_lines lines (StepLimit limit) = StepLimit limit
 behind_lines lines SwapFault = SwapFault
 behind_lines lines NoMemory = NoMemory
 
--- The state file isn't too long. The call that goes on ends as the one call of all events does, which writes what is told of the events
--- before, and then what the other wrote.
+-- The calls end as one. That of all events ends as the one that goes on, and writes what is told of the events before, and then what that
+-- one wrote. The state file isn't too long.
 pub record EndAsOne (run : TwoPartRun) : Type 0 where
   pub short : length run.state ≤ STATE_LIMIT
   pub machine : Machine

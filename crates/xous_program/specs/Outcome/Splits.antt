@@ -1,6 +1,5 @@
 -- Two setups that have one capacity, split in their own ways into frames of RAM and slots of the swap store.
-use Rattle.std.specs.Prelude.{◌≡◌, ℕ, ◌-◌, ◌*◌, ◌/◌, Bool, false, ◌&&◌, ◌||◌, nat_le, nat_lt, List, length, map, drop}
-use Rattle.std.specs.Prelude.{slice_index, Option, None}
+use Rattle.std.specs.Prelude.{◌≡◌, ℕ, ◌-◌, ◌*◌, ◌/◌, List, length, map, drop, Option, None}
 use Rattle.kernel_args.specs.declared.args.Args.{Args}
 use Rattle.kernel_args.specs.declared.args.ProcArgs.{ProcArgs}
 use Rattle.boot_plan.specs.Capacity.{capacity}
@@ -11,16 +10,6 @@ use Rattle.program_status.specs.Plans.{IsSoundImage}
 pub record Setup : Type 0 where
   pub image : List ℕ
   pub asked : Option ℕ
-
--- The offsets of what an image says of RAM: RAM start and RAM size are its bytes from 16 up to 24, and the check number
--- over them is its bytes 4 and 5.
-abbrev pub says_ram : ℕ → Bool
-says_ram offset = (nat_le 4 offset && nat_lt offset 6) || (nat_le 16 offset && nat_lt offset 24)
-
--- Two images differ in nothing but RAM start, RAM size and the check number over them.
-pub record DifferInRam (image other : List ℕ) : Type 0 where
-  pub size : length other ≡ length image
-  pub elsewhere : (offset : ℕ) → says_ram offset ≡ false → slice_index other offset ≡ slice_index image offset
 
 -- a process of an image as it is loaded: its bytes stand so far behind the row of tags, and it is told without its check word
 abbrev pub behind_row : Args → ProcArgs → ProcArgs
