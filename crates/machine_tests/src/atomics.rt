@@ -6,7 +6,7 @@ use crate::memory::SmallMemory;
 use rv32_atomics::{Atomic, decode_atomic, encode_atomic, run_any, run_or_leave};
 use rv32_hart::Ran;
 use std::process::Abort;
-use xk_base::{Regs, UserMemory, Width};
+use xk_base::{Regs, Width};
 
 /// Rows of a table: two words, and what comes of them.
 macro_rules! rows {
@@ -75,33 +75,60 @@ struct Outcome {
     reserved: Option<u32>,
 }
 
-/// The instruction of the word at address 0, with a1 and the address in a2, where `old` stands at 256
-/// and this address is reserved.
-fn outcome_of(word: u32, a1: u32, a2: u32, old: u32, reserved: Option<u32>) -> Outcome {
-    outcome_by(false, word, a1, a2, old, reserved)
+/// The thread goes on, with these words in a0 and at 256, and this reservation.
+macro_rules! next {
+    ($a0:expr, $stored:expr, $reserved:expr) => {
+        Outcome {
+            ran: Ran::Next(4),
+            a0: $a0,
+            stored: $stored,
+            reserved: $reserved,
+        }
+    };
 }
 
-/// The same by `run_any`, or where it `leaves` by `run_or_leave`.
-fn outcome_by(
-    leaves: bool,
-    word: u32,
-    a1: u32,
-    a2: u32,
-    old: u32,
-    reserved: Option<u32>,
-) -> Outcome {
+/// Nothing is left but that 9 stands at 256 and 7 in a0, and what was reserved.
+macro_rules! kept {
+    ($ran:expr, $reserved:expr) => {
+        Outcome {
+            ran: $ran,
+            a0: 7,
+            stored: 9,
+            reserved: $reserved,
+        }
+    };
+}
+
+macro_rules! trap {
+    ($cause:literal, $value:literal) => {
+        Ran::Trap {
+            cause: $cause,
+            value: $value,
+        }
+    };
+}
+
+/// What executes the instruction: the one call or the other.
+#[derive(Clone, Copy)]
+enum By {
+    RunAny,
+    RunOrLeave,
+}
+
+/// The instruction of the word at address 0, with a1 and the address in a2, where `old` stands at 256
+/// and this address is reserved.
+fn outcome_of(by: By, word: u32, a1: u32, a2: u32, old: u32, reserved: Option<u32>) -> Outcome {
     let mut memory = SmallMemory { bytes: [0; 512] };
-    let _ = memory.store(0, Width::Word, word);
-    let _ = memory.store(256, Width::Word, old);
+    memory.set_word(0, word);
+    memory.set_word(256, old);
     let mut regs = Regs::new();
     regs.set(10, 7);
     regs.set(11, a1);
     regs.set(12, a2);
     let mut left = reserved;
-    let ran = if leaves {
-        run_or_leave(&mut regs, 0, &mut left, &mut memory)
-    } else {
-        run_any(&mut regs, 0, &mut left, &mut memory)
+    let ran = match by {
+        By::RunAny => run_any(&mut regs, 0, &mut left, &mut memory),
+        By::RunOrLeave => run_or_leave(&mut regs, 0, &mut left, &mut memory),
     };
     Outcome {
         ran,
@@ -111,116 +138,102 @@ fn outcome_by(
     }
 }
 
+/// The instruction of the word had this outcome.
+fn expect(rt: &impl Abort, word: u32, told: Outcome, wanted: Outcome) {
+    assert_eq!(rt; told, wanted, "{word:08x}");
+}
+
 /// Each AMO puts the old word in a0 and its result in memory, and keeps a reservation.
 #[test]
 fn operations(rt: HostRuntime) {
     for (old, operand, results) in &RESULTS {
         for (word, result) in AMOS.iter().zip(results) {
-            let got = outcome_of(*word, *operand, 256, *old, Some(256));
-            assert_eq!(rt; got.ran, Ran::Next(4));
-            assert_eq!(rt; got.a0, *old, "{word:08x}");
-            assert_eq!(rt;
-                got.stored,
-                *result,
-                "{word:08x} of {old:08x}, {operand:08x}"
-            );
-            assert_eq!(rt; got.reserved, Some(256));
+            let told = outcome_of(By::RunAny, *word, *operand, 256, *old, Some(256));
+            expect(&rt, *word, told, next!(*old, *result, Some(256)));
         }
     }
 }
 
+/// ADDI a0, a0, 1.
+const ADDI: u32 = 0x0015_0513;
+
+/// An instruction, what is reserved before it, and its outcome with 5 in a1, and 9 at 256, its address.
+const RESERVATIONS: [(u32, Option<u32>, Outcome); 6] = [
+    (LR, None, next!(9, 9, Some(256))),
+    (LR, Some(4), next!(9, 9, Some(256))),
+    (SC, Some(256), next!(0, 5, None)),
+    (SC, Some(260), next!(1, 9, None)),
+    (SC, None, next!(1, 9, None)),
+    (ADDI, Some(256), next!(8, 9, Some(256))),
+];
+
 /// LR reserves, and SC stores where its address is reserved and nowhere else.
 #[test]
 fn reservations(rt: HostRuntime) {
-    let next = |a0: u32, stored: u32, reserved: Option<u32>| Outcome {
-        ran: Ran::Next(4),
-        a0,
-        stored,
-        reserved,
-    };
-    assert_eq!(rt; outcome_of(LR, 5, 256, 9, None), next(9, 9, Some(256)));
-    assert_eq!(rt; outcome_of(LR, 5, 256, 9, Some(4)), next(9, 9, Some(256)));
-    assert_eq!(rt; outcome_of(SC, 5, 256, 9, Some(256)), next(0, 5, None));
-    assert_eq!(rt; outcome_of(SC, 5, 256, 9, Some(260)), next(1, 9, None));
-    assert_eq!(rt; outcome_of(SC, 5, 256, 9, None), next(1, 9, None));
-    // addi a0, a0, 1
-    assert_eq!(rt;
-        outcome_of(0x0015_0513, 5, 256, 9, Some(256)),
-        next(8, 9, Some(256))
-    );
+    for (word, reserved, wanted) in &RESERVATIONS {
+        let told = outcome_of(By::RunAny, *word, 5, 256, 9, *reserved);
+        expect(&rt, *word, told, *wanted);
+    }
+}
+
+/// An instruction, its address, and how it traps with 5 in a1 and 9 at 256, which is reserved; and an ECALL.
+const TRAPS: [(u32, u32, Ran); 8] = [
+    (LR, 258, trap!(4, 258)),
+    (SC, 258, trap!(6, 258)),
+    (AMOS[1], 257, trap!(6, 257)),
+    (LR, 512, trap!(13, 512)),
+    (SC, 512, trap!(15, 512)),
+    (AMOS[1], 512, trap!(15, 512)),
+    (0x10b6_252f, 256, trap!(2, 0x10b6_252f)), // LR with an rs2
+    (0x0000_0073, 256, Ran::Ecall),
+];
+
+/// A store of 5 to the console's page.
+const DEVICE: Ran = Ran::Device {
+    offset: 496,
+    value: 5,
+    next: 4,
+};
+
+fn expect_device(rt: &impl Abort, told: Outcome) {
+    assert_eq!(rt; (told.ran, told.a0), (DEVICE, 0));
 }
 
 /// Each trap with its cause and its value, an ECALL, and a store to the console's page.
 #[test]
 fn traps(rt: HostRuntime) {
-    let trap = |cause: u8, value: u32| Ran::Trap { cause, value };
-    let rows = [
-        (LR, 258, trap(4, 258)),
-        (SC, 258, trap(6, 258)),
-        (AMOS[1], 257, trap(6, 257)),
-        (LR, 512, trap(13, 512)),
-        (SC, 512, trap(15, 512)),
-        (AMOS[1], 512, trap(15, 512)),
-        (0x10b6_252f, 256, trap(2, 0x10b6_252f)), // LR with an rs2
-        (0x0000_0073, 256, Ran::Ecall),
-    ];
-    for (word, address, ran) in &rows {
-        let got = outcome_of(*word, 5, *address, 9, Some(256));
-        let left = Outcome {
+    for (word, address, ran) in &TRAPS {
+        let told = outcome_of(By::RunAny, *word, 5, *address, 9, Some(256));
+        let wanted = Outcome {
             ran: *ran,
             a0: 7,
             stored: 9,
             reserved: None,
         };
-        assert_eq!(rt; got, left, "{word:08x}");
+        expect(&rt, *word, told, wanted);
     }
-    let device = Ran::Device {
-        offset: 496,
-        value: 5,
-        next: 4,
-    };
-    assert_eq!(rt; outcome_of(SC, 5, 496, 9, Some(496)).ran, device);
-    assert_eq!(rt; outcome_of(SC, 5, 496, 9, Some(496)).a0, 0);
-    assert_eq!(rt; outcome_of(AMOS[0], 5, 496, 9, None).ran, device);
-    assert_eq!(rt; outcome_of(AMOS[0], 5, 496, 9, None).a0, 0);
+    expect_device(&rt, outcome_of(By::RunAny, SC, 5, 496, 9, Some(496)));
+    expect_device(&rt, outcome_of(By::RunAny, AMOS[0], 5, 496, 9, None));
 }
+
+/// An instruction, its address, and its outcome with 5 in a1, and 9 at 256, where its address is reserved, or 256 for 258.
+const LEAVING: [(u32, u32, u32, Outcome); 7] = [
+    (SC, 496, 496, kept!(DEVICE, Some(496))),
+    (AMOS[0], 496, 496, kept!(DEVICE, Some(496))),
+    (SW, 496, 496, kept!(DEVICE, Some(496))),
+    (0x0000_0073, 256, 256, kept!(Ran::Ecall, Some(256))),
+    (SC, 258, 256, kept!(trap!(6, 258), Some(256))),
+    (SC, 256, 256, next!(0, 5, None)),
+    (AMOS[0], 256, 256, next!(9, 5, Some(256))),
+];
 
 /// Where the thread goes on it has what the instruction leaves, and else what it had before.
 #[test]
 fn leaving(rt: HostRuntime) {
-    let kept = |ran: Ran, a0: u32, stored: u32, reserved: Option<u32>| Outcome {
-        ran,
-        a0,
-        stored,
-        reserved,
-    };
-    let device = Ran::Device {
-        offset: 496,
-        value: 5,
-        next: 4,
-    };
-    for word in &[SC, AMOS[0], SW] {
-        let left = kept(device, 7, 9, Some(496));
-        assert_eq!(rt;
-            outcome_by(true, *word, 5, 496, 9, Some(496)),
-            left,
-            "{word:08x}"
-        );
+    for (word, address, reserved, wanted) in &LEAVING {
+        let told = outcome_of(By::RunOrLeave, *word, 5, *address, 9, Some(*reserved));
+        expect(&rt, *word, told, *wanted);
     }
-    let call = kept(Ran::Ecall, 7, 9, Some(256));
-    assert_eq!(rt; outcome_by(true, 0x0000_0073, 5, 256, 9, Some(256)), call);
-    let trap = Ran::Trap {
-        cause: 6,
-        value: 258,
-    };
-    assert_eq!(rt;
-        outcome_by(true, SC, 5, 258, 9, Some(256)),
-        kept(trap, 7, 9, Some(256))
-    );
-    let next = kept(Ran::Next(4), 0, 5, None);
-    assert_eq!(rt; outcome_by(true, SC, 5, 256, 9, Some(256)), next);
-    let swapped = kept(Ran::Next(4), 9, 5, Some(256));
-    assert_eq!(rt; outcome_by(true, AMOS[0], 5, 256, 9, Some(256)), swapped);
 }
 
 /// Each word decodes to its instruction, and that encodes to the word.

@@ -8,7 +8,7 @@ ghost use Rattle.std.specs.Prelude.{◌≤◌, length};
 use crate::memory::SmallMemory;
 use rv32_hart::{Ran, run_one};
 use std::process::Abort;
-use xk_base::{Regs, UserMemory, Width};
+use xk_base::Regs;
 
 /// Rows of a table: two words, and what comes of them.
 macro_rules! rows {
@@ -184,34 +184,31 @@ fn memory_of(words: &[u32]) -> SmallMemory
 {
     let mut memory = SmallMemory { bytes: [0; 512] };
     for (i, word) in words.iter().enumerate() {
-        let _ = memory.store(4 * i as u32, Width::Word, *word);
+        memory.set_word(4 * i, *word);
     }
     memory
 }
 
-/// What an instruction writes to x3, where x1 and x2 hold these words.
-fn x3_after(rt: &impl Abort, word: u32, a: u32, b: u32) -> u32 {
+/// An instruction of x1 and x2, where these words stand, goes on to the next one and writes this word to x3.
+fn expect_x3(rt: &impl Abort, word: u32, a: u32, b: u32, wanted: u32) {
     let mut memory = memory_of(&[word]);
     let mut regs = Regs::new();
     regs.set(1, a);
     regs.set(2, b);
+    let ran = run_one(&mut regs, 0, &mut memory);
+    let told = (ran, regs.get(3));
     assert_eq!(rt;
-        run_one(&mut regs, 0, &mut memory),
-        Ran::Next(4),
-        "at {word:08x}"
+        told,
+        (Ran::Next(4), wanted),
+        "{word:08x} of {a:08x}, {b:08x}"
     );
-    regs.get(3)
 }
 
 /// Each instruction, of x1 and x2 into x3, gives what its column says.
 fn columns<const N: usize>(rt: &impl Abort, words: &[u32; N], rows: &[(u32, u32, [u32; N])]) {
     for (a, b, results) in rows {
         for (word, result) in words.iter().zip(results) {
-            assert_eq!(rt;
-                x3_after(rt, *word, *a, *b),
-                *result,
-                "{word:08x} of {a:08x}, {b:08x}"
-            );
+            expect_x3(rt, *word, *a, *b, *result);
         }
     }
 }
@@ -225,8 +222,8 @@ fn arithmetic(rt: HostRuntime) {
     let shifts = [0x0020_91b3, 0x0020_d1b3, 0x4020_d1b3]; // sll, srl, sra
     columns(&rt, &shifts, &SHIFTS);
     for (word, [first, second]) in &CONSTANT_SHIFTS {
-        assert_eq!(rt; x3_after(&rt, *word, 0x8000_0001, 0), *first, "{word:08x}");
-        assert_eq!(rt; x3_after(&rt, *word, 0x7fff_fffe, 0), *second, "{word:08x}");
+        expect_x3(&rt, *word, 0x8000_0001, 0, *first);
+        expect_x3(&rt, *word, 0x7fff_fffe, 0, *second);
     }
 }
 
@@ -246,39 +243,55 @@ fn program(rt: HostRuntime) {
         }
     }
     assert_eq!(rt; pc, 4 * 56);
-    for (r, word) in AFTER.iter().enumerate() {
-        assert_eq!(rt; regs.get(r as u8), *word, "x{r}");
+    let mut left = [0; 28];
+    for r in 0..28u8 {
+        left[r as usize] = regs.get(r);
     }
+    assert_eq!(rt; left, AFTER);
 }
+
+macro_rules! trap {
+    ($cause:literal, $value:literal) => {
+        Ran::Trap {
+            cause: $cause,
+            value: $value,
+        }
+    };
+}
+
+/// An instruction, what x1 holds, and how it traps with 0x12345678 in x2; the last one stores to the console.
+const TRAPS: [(u32, u32, Ran); 8] = [
+    (0x0000_8067, 6, trap!(0, 6)), // jalr x0,0(x1)
+    (0x0000_0000, 0, trap!(2, 0)), // no instruction
+    (0x0010_0073, 0, trap!(3, 0)), // ebreak
+    (0x0000_a183, 2, trap!(4, 2)), // lw x3,0(x1)
+    (0x0020_9023, 1, trap!(6, 1)), // sh x2,0(x1)
+    (0x0000_a183, 512, trap!(13, 512)), // lw x3,0(x1)
+    (0x0020_9023, 512, trap!(15, 512)), // sh x2,0(x1)
+    (
+        0x0020_8023,
+        497,
+        Ran::Device {
+            offset: 497,
+            value: 0x1234_5678,
+            next: 4,
+        },
+    ), // sb x2,0(x1)
+];
 
 /// Each trap with its cause (RISC-V Privileged Architecture, 4.1.8) and its value, and a store to the
 /// console.
 #[test]
 fn traps(rt: HostRuntime) {
-    let trap = |cause: u8, value: u32| Ran::Trap { cause, value };
-    let device = Ran::Device {
-        offset: 497,
-        value: 0x1234_5678,
-        next: 4,
-    };
-    let rows = [
-        (0x0000_8067, 6, trap(0, 6)), // jalr x0,0(x1)
-        (0x0000_0000, 0, trap(2, 0)), // no instruction
-        (0x0010_0073, 0, trap(3, 0)), // ebreak
-        (0x0000_a183, 2, trap(4, 2)), // lw x3,0(x1)
-        (0x0020_9023, 1, trap(6, 1)), // sh x2,0(x1)
-        (0x0000_a183, 512, trap(13, 512)), // lw x3,0(x1)
-        (0x0020_9023, 512, trap(15, 512)), // sh x2,0(x1)
-        (0x0020_8023, 497, device), // sb x2,0(x1)
-    ];
-    for (word, address, ran) in &rows {
+    for (word, address, wanted) in &TRAPS {
         let mut memory = memory_of(&[*word]);
         let mut regs = Regs::new();
         regs.set(1, *address);
         regs.set(2, 0x1234_5678);
-        assert_eq!(rt; run_one(&mut regs, 0, &mut memory), *ran, "at {word:08x}");
-        assert_eq!(rt; (regs.get(1), regs.get(3)), (*address, 0));
+        let ran = run_one(&mut regs, 0, &mut memory);
+        let told = (ran, regs.get(1), regs.get(3));
+        assert_eq!(rt; told, (*wanted, *address, 0), "at {word:08x}");
     }
     let fetched = run_one(&mut Regs::new(), 512, &mut memory_of(&[]));
-    assert_eq!(rt; fetched, trap(12, 512));
+    assert_eq!(rt; fetched, trap!(12, 512));
 }

@@ -1,6 +1,6 @@
 //! A memory for the tests.
 
-ghost use Rattle.std.specs.Prelude.{◌≡◌, ◌<◌, ◌%◌, slice_index};
+ghost use Rattle.std.specs.Prelude.{◌≡◌, ◌<◌, ◌≤◌, ◌%◌, slice_index};
 ghost use Rattle.xk_base.specs.UserMemory.{number_at, size_of};
 
 use xk_base::{Failed, Stored, UserMemory, Width};
@@ -29,6 +29,13 @@ impl SmallMemory {
                     + 16_777_216 * self.byte(va + 3)
             }
         }
+    }
+
+    /// Puts a word at an address.
+    pub fn set_word(&mut self, at: usize, word: u32)
+        requires inside { at ≤ 508 }
+    {
+        self.bytes[at..at + 4].copy_from_slice(&word.to_le_bytes());
     }
 
     /// The byte at an address.

@@ -3,7 +3,7 @@
 
 ghost use Rattle.std.specs.Prelude.{◌≡◌};
 
-use std::test::Fail;
+use std::process::Abort;
 use timer_device::{Timer, TimerView};
 use xk_base::{Failed, Stored, UserMemory, Width};
 
@@ -61,50 +61,69 @@ impl UserMemory for OneWord {
     ghost rest_over = { λ a b c h k. tt };
 }
 
-#[test]
-fn timer_is_armed_and_due_once(rt: HostRuntime) {
-    let mut timer = Timer::new();
-    assert_eq!(rt; timer.compare(), None);
-    assert_eq!(rt; timer.load(8, Width::Word, 24), 0);
-    timer.store(4, Width::Word, 30);
-    assert_eq!(rt; timer.compare(), Some(30));
-    assert_eq!(rt; timer.load(0, Width::Word, 25), 25);
-    assert_eq!(rt; timer.load(4, Width::Word, 25), 30);
-    assert_eq!(rt; timer.load(8, Width::Word, 25), 1);
-    assert_eq!(rt; timer.load(4, Width::Half, 25), 0);
-    assert!(rt; !timer.due(29));
-    assert!(rt; timer.due(30));
-    assert!(rt; !timer.due(30));
-    timer.store(4, Width::Word, 40);
-    timer.disarm();
-    assert_eq!(rt; timer.compare(), None);
-    timer.store(4, Width::Word, 40);
-    timer.store(8, Width::Word, 7);
-    assert_eq!(rt; timer.compare(), None);
+fn expect(rt: &impl Abort, is_so: bool) {
+    assert!(rt; is_so);
+}
+
+fn expect_word(rt: &impl Abort, told: u32, wanted: u32) {
+    assert_eq!(rt; told, wanted);
+}
+
+fn expect_compare(rt: &impl Abort, timer: &Timer, wanted: Option<u32>) {
+    assert_eq!(rt; timer.compare(), wanted);
 }
 
 #[test]
-fn view_serves_the_page_where_it_is_on(rt: HostRuntime) -> Result<(), Fail> {
+fn timer_is_armed_and_due_once(rt: HostRuntime) {
+    let mut timer = Timer::new();
+    expect_compare(&rt, &timer, None);
+    expect_word(&rt, timer.load(8, Width::Word, 24), 0);
+    timer.store(4, Width::Word, 30);
+    expect_compare(&rt, &timer, Some(30));
+    expect_word(&rt, timer.load(0, Width::Word, 25), 25);
+    expect_word(&rt, timer.load(4, Width::Word, 25), 30);
+    expect_word(&rt, timer.load(8, Width::Word, 25), 1);
+    expect_word(&rt, timer.load(4, Width::Half, 25), 0);
+    expect(&rt, !timer.due(29));
+    expect(&rt, timer.due(30));
+    expect(&rt, !timer.due(30));
+    timer.store(4, Width::Word, 40);
+    timer.disarm();
+    expect_compare(&rt, &timer, None);
+    timer.store(4, Width::Word, 40);
+    timer.store(8, Width::Word, 7);
+    expect_compare(&rt, &timer, None);
+}
+
+fn expect_read(rt: &impl Abort, told: Result<Option<u32>, Failed>, wanted: Option<u32>) {
+    assert_eq!(rt; told, Ok(wanted));
+}
+
+fn expect_stored(rt: &impl Abort, told: Result<Stored, Failed>, wanted: Stored) {
+    assert_eq!(rt; told, Ok(wanted));
+}
+
+#[test]
+fn view_serves_the_page_where_it_is_on(rt: HostRuntime) {
     let mut view = TimerView {
         inner: OneWord { word: 7 },
         timer: Timer::new(),
         on: true,
         steps: 25,
     };
-    assert_eq!(rt; view.store(PAGE + 4, Width::Word, 30)?, Stored::Done);
-    assert_eq!(rt; view.load(PAGE, Width::Word)?, Some(25));
-    assert_eq!(rt; view.load(PAGE + 4, Width::Word)?, Some(30));
-    assert_eq!(rt; view.fetch(PAGE)?, None);
-    assert!(rt; view.can_store(PAGE + 8, Width::Word));
-    assert_eq!(rt; view.load(PAGE + 4096, Width::Word)?, None);
-    assert_eq!(rt; view.store(0, Width::Word, 9)?, Stored::Done);
-    assert_eq!(rt; view.fetch(0)?, Some(9));
+    expect_stored(&rt, view.store(PAGE + 4, Width::Word, 30), Stored::Done);
+    expect_read(&rt, view.load(PAGE, Width::Word), Some(25));
+    expect_read(&rt, view.load(PAGE + 4, Width::Word), Some(30));
+    expect_read(&rt, view.fetch(PAGE), None);
+    expect(&rt, view.can_store(PAGE + 8, Width::Word));
+    expect_read(&rt, view.load(PAGE + 4096, Width::Word), None);
+    expect_stored(&rt, view.store(0, Width::Word, 9), Stored::Done);
+    expect_read(&rt, view.fetch(0), Some(9));
     view.on = false;
-    assert_eq!(rt; view.load(PAGE, Width::Word)?, None);
-    assert_eq!(rt; view.store(PAGE + 8, Width::Word, 0)?, Stored::Fault);
-    assert!(rt; !view.can_store(PAGE + 8, Width::Word));
-    assert_eq!(rt; view.load(0, Width::Word)?, Some(9));
+    expect_read(&rt, view.load(PAGE, Width::Word), None);
+    expect_stored(&rt, view.store(PAGE + 8, Width::Word, 0), Stored::Fault);
+    expect(&rt, !view.can_store(PAGE + 8, Width::Word));
+    expect_read(&rt, view.load(0, Width::Word), Some(9));
     let TimerView { timer, .. } = view;
-    assert_eq!(rt; timer.compare(), Some(30));
-    Ok(())
+    expect_compare(&rt, &timer, Some(30));
 }
