@@ -35,7 +35,7 @@ use Rattle.program_status.specs.declared.status.Status.TheVariants.{Done, EventF
 
 -- ---- runs
 
--- a run: what it starts on, its step limit, and its events, up to the first bad line of their file
+-- what a run starts on, its step limit and its events, up to the first bad line of their file
 pub record Run : Type 0 where
   pub booted : Booted
   pub limit : ℕ

@@ -13,7 +13,7 @@ pub record PlaysOn (setup : Setup) (events : List ℕ) (play : Play) (call : Cal
   pub image : files play.image ≡ Some setup.image
   pub event_file : files play.events ≡ Some events
 
--- two calls: their setups, the bytes of an event file, and the calls
+-- two calls with their setups, and the bytes of an event file
 pub record TwoSplits : Type 0 where
   pub one : Setup
   pub other : Setup
