@@ -1,6 +1,6 @@
 -- Each served call is of one of the kinds.
 use Rattle.std.proofs.Common.{◌≡◌, ℕ, ◌<◌, Bool, true, false, List, [], ◌∷◌, ◌++◌, Option, Some, None, refl, sym, ap, ◌∙◌, subst, arith}
-use Rattle.std.specs.Prelude.{◌==◌, ◌&&◌, is_none, is_some, slice_index, unwrap_or, ◌+◌, nat_le}
+use Rattle.std.specs.Prelude.{◌==◌, ◌&&◌, is_none, is_some, slice_index, unwrap_or, ◌+◌, nat_le, ◌/◌, ◌-◌}
 use Rattle.std.specs.Option.{option_and_then, option_map_or}
 use Rattle.std.proofs.lemmas.Bool.{and_parts, eq-eqb, eqb-true, false≢true}
 use Rattle.std.proofs.lemmas.Option.{none-some}
@@ -56,6 +56,25 @@ use Rattle.transcript_laws.specs.CallKinds.{Keeps, LeadsTo, NamesOwn, PassesMess
 use Rattle.transcript_laws.specs.CallKinds.{loan_back, passing, place_at_server, reaches_others, sending, words_back}
 use Rattle.transcript_laws.specs.Following.{is_return_call}
 use Rattle.transcript_laws.specs.Serving.{is_receive}
+use Rattle.call_effects.specs.Rows.InterruptRows.{claim_row, free_row}
+use Rattle.call_effects.specs.Rows.MemoryRows.{decrease_row, increase_row, map_row, unmap_row, update_row}
+use Rattle.ledger_model.specs.LeastRun.{least_run}
+use Rattle.ledger_model.specs.RunTests.{any_on_loan}
+use Rattle.machine_laws.proofs.Calling.RunRefusalLemmas.{run_not_lent}
+use Rattle.machine_model.specs.Calling.InterruptCalls.{claim_refusals, free_refusals}
+use Rattle.machine_model.specs.Calling.MemoryCalls.{caller_place, decrease_refusals, heap_limit, heap_of, heap_start, increase_refusals, map_refusals, unmap_refusals, update_refusals}
+use Rattle.machine_model.specs.Calling.ServerCalls.{connect_refusals, is_missing}
+use Rattle.machine_model.specs.Stepping.Interrupts.{is_claim_of}
+use Rattle.std.proofs.lemmas.Bool.{ltb-false}
+use Rattle.std.specs.Option.{option_map}
+use Rattle.syscall_codec.specs.CallNumbers.{claim_interrupt, decrease_heap, free_interrupt, increase_heap, map_memory, unmap_memory, update_memory_flags}
+use Rattle.syscall_codec.specs.CallWords.{heap_bytes, interrupt_handler, interrupt_number, map_flags, map_phys, map_size, map_virt, range_address, range_flags, range_size}
+use Rattle.xk_base.specs.Tables.Sids.{is_sid}
+use Rattle.xk_base.specs.declared.errors.XousError.TheVariants.{ServerNotFound}
+use Rattle.xk_base.specs.declared.limits.TheConstants.{PAGE_SIZE}
+use Rattle.xk_base.specs.declared.windows.Window.TheVariants.{Map}
+use Rattle.confidentiality_laws.proofs.Keeping.MemoryCallLemmas.{grown_free, map_free}
+use Rattle.transcript_laws.specs.CallKinds.{AreUnlent, IsLive}
 
 -- ---- tests that don't hold
 
@@ -86,6 +105,75 @@ module _ (m : Machine) (h : Matched m) (w : List ℕ) where
       → (slice_index words 0 == reply_message) ≡ false → AreOwn m effects
       → CallKind m k w (record { effects = effects; answers = answer_to m.cursor words; gone = None })
   keeps alone other words plain own = Keeps _ _ alone other (record { own = own; answered = WithWords _ words plain })
+
+  -- ---- pages
+
+  maps : OfNumber map_memory map_row
+  maps none =
+      let passed = none_hold (map_refusals m (map_phys w) (map_virt w) (map_size w) (map_flags w)) none in
+      keeps refl refl (range_words _ _) refl (
+        record {
+          own = refl;
+          empty = map_free m (map_virt w) (map_size w / PAGE_SIZE) (map_virt w == 0)
+              (least_run m.processes m.ledger m.cursor.pid Map (map_size w / PAGE_SIZE)) refl passed.1.1.1.1.1.1.0 passed.1.1.1.1.1.1.1.0;
+        },
+        tt,
+      )
+
+  increases : OfNumber increase_heap increase_row
+  increases none =
+      let passed = none_hold (increase_refusals m (heap_bytes w)) none in
+      keeps refl refl (range_words _ _) refl
+      (record { own = refl; empty = grown_free m (heap_bytes w) h (ltb-false heap_limit (heap_of m + heap_bytes w) passed.1.0) }, (tt, tt))
+
+  unlent : (address n : ℕ) → any_on_loan m.processes m.ledger (caller_place m address) n ≡ false → AreUnlent m (caller_place m address) n
+  unlent address n none = record { own = refl; unlent = run_not_lent m.processes m.ledger (caller_place m address) n none }
+
+  decreases : OfNumber decrease_heap decrease_row
+  decreases none =
+      keeps refl refl plain_words refl
+      (unlent (heap_start + (heap_of m - heap_bytes w)) (heap_bytes w / PAGE_SIZE) (none_hold (decrease_refusals m (heap_bytes w)) none).1.1.0, (tt, tt))
+
+  updates : OfNumber update_memory_flags update_row
+  updates none =
+      keeps refl refl plain_words refl (
+        unlent (range_address w) (range_size w / PAGE_SIZE)
+            (none_hold (update_refusals m (range_address w) (range_size w) (range_flags w)) none).1.1.1.0,
+        tt,
+      )
+
+  unmaps : OfNumber unmap_memory unmap_row
+  unmaps none =
+      keeps refl refl plain_words refl
+      (unlent (range_address w) (range_size w / PAGE_SIZE) (none_hold (unmap_refusals m (range_address w) (range_size w)) none).1.1.0, tt)
+
+  -- ---- interrupts, connections and threads
+
+  claims : OfNumber claim_interrupt claim_row
+  claims none =
+      let passed = none_hold (claim_refusals m (interrupt_number w) (interrupt_handler w)) none in
+      keeps refl refl plain_words refl (record { free = there_is_none (m.claims (interrupt_number w)) passed.1.1.0; own = refl }, tt)
+
+  frees : OfNumber free_interrupt free_row
+  frees none =
+      keeps refl refl plain_words refl
+      (not_false (is_claim_of m.cursor.pid (m.claims (interrupt_number w))) (none_hold (free_refusals m (interrupt_number w)) none).0, tt)
+
+  -- a server that has the identifier is alive
+  live : is_missing m (named_sid w) ≡ false → IsLive m (named_server m (named_sid w))
+  unfolding with_sid
+  live found = go (least_below m.next_serial is_named) refl found
+    where
+      is_named : ℕ → Bool
+      is_named n = is_sid (named_sid w) (option_map (λ server. server.sid) (m.servers n))
+
+      at : (n : ℕ) (o : Option Server) → m.servers n ≡ o → is_sid (named_sid w) (option_map (λ (server : Server). server.sid) o) ≡ true → IsLive m (serial_of n)
+      at n None there e = absurd (false≢true e)
+      at n (Some server) there e = record { server = server; there = there }
+
+      go : (o : Option ℕ) → least_below m.next_serial is_named ≡ o → is_none (option_map serial_of o) ≡ false → IsLive m (unwrap_or (option_map serial_of o) (serial_of 0))
+      go None q e = absurd (false≢true (sym e))
+      go (Some n) q e = at n (m.servers n) refl (least_below-passes m.next_serial is_named n q)
 
   -- a new thread begins where none was
   begins : first_refusal (create_refusals m (thread_entry w)) ≡ None → m.threads (thread_id m.cursor.pid (unwrap_or (free_tid m m.cursor.pid) 0)) ≡ None
@@ -309,24 +397,25 @@ module _ (m : Machine) (h : Matched m) (w : List ℕ) where
 
   each : OfRows (λ k. true) OfNumber rows
   each =
-      (λ none. keeps refl refl (range_words _ _) refl (refl, tt))
+      maps
       also keeps refl refl plain_words refl (tt, tt)
-      also (λ none. keeps refl refl plain_words refl (refl, tt))
-      also (λ none. keeps refl refl plain_words refl (tt, tt))
-      also (λ none. keeps refl refl (range_words _ _) refl (refl, (tt, tt)))
-      also (λ none. keeps refl refl plain_words refl (refl, (tt, tt)))
-      also (λ none. keeps refl refl plain_words refl (refl, tt))
+      also claims
+      also frees
+      also increases
+      also decreases
+      also updates
       also founds
       also receives receive_message refl
       also (λ none room. sends_if send_message refl none room)
-      also (λ passed none. keeps refl refl (connection_words _) refl (tt, tt))
+      also (λ found none. keeps refl refl (connection_words _) refl (live found, tt))
       also (λ none. keeps refl refl (thread_words _) refl (record { own = refl; free = begins none; ready = refl }, tt))
-      also (λ none. keeps refl refl plain_words refl (refl, tt))
+      also unmaps
       also returns_memory
       also EndsProcess refl
       also (λ none. sends_if try_send_message refl (first_none (send_refusals m w) ((is_full_for m w, ServerQueueFull) ∷ []) none)
       (none_hold ((is_full_for m w, ServerQueueFull) ∷ []) (behind_none (send_refusals m w) ((is_full_for m w, ServerQueueFull) ∷ []) none)).0)
-      also (λ none. keeps refl refl (connection_words _) refl (tt, tt))
+      also (λ none. keeps refl refl (connection_words _) refl
+      (live (none_hold ((is_missing m (named_sid w), ServerNotFound) ∷ connect_refusals m (named_sid w)) none).0, tt))
       also (λ none. returns return_scalar1 refl (none_hold (return_scalar_refusals m (named_number w)) none).0 (λ e. absurd (false≢true e)))
       also (λ none. returns return_scalar2 refl (none_hold (return_scalar_refusals m (named_number w)) none).0 (λ e. absurd (false≢true e)))
       also receives try_receive_message refl

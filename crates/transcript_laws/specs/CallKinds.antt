@@ -16,6 +16,8 @@ use Rattle.syscall_codec.specs.CallNumbers.{return_memory, return_scalar1, termi
 use Rattle.syscall_codec.specs.CallWords.{call_number, forward_cid, return_address, return_offset, return_size, return_valid, return_value1}
 use Rattle.syscall_codec.specs.CallWords.{return_value2, send_address, send_cid}
 use Rattle.syscall_codec.specs.ReplyWords.{message_words, new_server_words, plain_words, returned_words, scalar1_words, scalar2_words}
+use Rattle.ledger_model.specs.Conditions.{is_lent}
+use Rattle.ledger_model.specs.Places.{in_run}
 use Rattle.machine_model.specs.Calling.Calls.{call}
 use Rattle.machine_model.specs.Calling.MemoryCalls.{caller_place}
 use Rattle.machine_model.specs.Calling.ServerCalls.{create_server_refusals, named_sid, new_serial, new_server}
@@ -29,8 +31,9 @@ use Rattle.machine_model.specs.Runs.LoanSpan.{is_send}
 use Rattle.machine_model.specs.Runs.Matched.{Matched}
 use Rattle.machine_model.specs.State.Changes.{Change, Served, first_refusal}
 use Rattle.machine_model.specs.State.Connections.{own_connections}
-use Rattle.machine_model.specs.State.Machine.{Idle, Joining, Machine, Ready, Receiving, Server, Thread, ThreadState, Waiting}
+use Rattle.machine_model.specs.State.Machine.{Claim, Idle, Joining, Machine, Ready, Receiving, Server, Thread, ThreadState, Waiting}
 use Rattle.machine_model.specs.State.Servers.{is_full, with_sid}
+use Rattle.machine_model.specs.Stepping.Interrupts.{is_claim_of}
 use Rattle.machine_model.specs.State.Threads.{Answers, answer_to, both_answers, no_answers}
 use Rattle.call_effects.specs.Effects.{Awaits, Claims, ClosesServers, Connects, Effect, Ends, EndsTurn, Forgets, Founds, Frees, HasHeap}
 use Rattle.call_effects.specs.Effects.{Maps, Orphans, Pages, PageStep, Passes, Reduces, Removes, Returned, Sends, Serves, Starts, Taken}
@@ -52,11 +55,21 @@ reaches_others number =
 
 -- ---- a call that keeps to its process
 
--- the step is on pages of the caller's process, and on none of a loan
+-- pages of the caller's process are made where none was
+pub record AreMade (m : Machine) (first : Place) (n : ℕ) : Type 0 where
+  pub own : first.pid ≡ m.cursor.pid
+  pub empty : (p : Place) → in_run first n p ≡ true → m.ledger.home p ≡ None
+
+-- pages of the caller's process go or get another right, and none of them is on loan
+pub record AreUnlent (m : Machine) (first : Place) (n : ℕ) : Type 0 where
+  pub own : first.pid ≡ m.cursor.pid
+  pub unlent : (p : Place) → in_run first n p ≡ true → is_lent (m.ledger.home p) ≡ false
+
+-- no page is lent, moved, forwarded or given back
 abbrev pub IsOwnPages : Machine → PageStep → Type 0
-IsOwnPages m (Maps console first n right) = first.pid ≡ m.cursor.pid
-IsOwnPages m (Removes first n) = first.pid ≡ m.cursor.pid
-IsOwnPages m (Reduces first n right) = first.pid ≡ m.cursor.pid
+IsOwnPages m (Maps console first n right) = AreMade m first n
+IsOwnPages m (Removes first n) = AreUnlent m first n
+IsOwnPages m (Reduces first n right) = AreUnlent m first n
 IsOwnPages m (Sends kind from n to number) = ⊥
 IsOwnPages m (Passes number from to) = ⊥
 IsOwnPages m (Ends number) = ⊥
@@ -75,6 +88,16 @@ pub record IsBeginning (m : Machine) (who : ThreadId) (thread : Thread) : Type 0
   pub free : m.threads who ≡ None
   pub ready : thread.state ≡ Ready
 
+-- the server is alive
+pub record IsLive (m : Machine) (serial : Serial) : Type 0 where
+  pub server : Server
+  pub there : m.servers serial.0 ≡ Some server
+
+-- an interrupt that nobody has claimed is the caller's process's
+pub record IsClaiming (m : Machine) (k : ℕ) (claim : Claim) : Type 0 where
+  pub free : m.claims k ≡ None
+  pub own : claim.pid ≡ m.cursor.pid
+
 -- the effect is on the caller's process alone, and on no server and no message
 abbrev pub IsOwn : Machine → Effect → Type 0
 IsOwn m (Pages step) = IsOwnPages m step
@@ -84,15 +107,15 @@ IsOwn m (Waits who state) = (who ≡ m.cursor) × WaitsAlone state
 IsOwn m (Awaits waits number) = ⊥
 IsOwn m EndsTurn = ⊤
 IsOwn m (Founds server) = ⊥
-IsOwn m (Connects serial) = ⊤
+IsOwn m (Connects serial) = IsLive m serial
 IsOwn m TakesNumber = ⊥
 IsOwn m (Serves serial step) = ⊥
 IsOwn m (ClosesServers which) = ⊥
 IsOwn m (Unqueues pid) = ⊥
 IsOwn m (Orphans pid) = ⊥
 IsOwn m (Forgets pid) = ⊥
-IsOwn m (Claims k claim) = claim.pid ≡ m.cursor.pid
-IsOwn m (Frees k) = ⊤
+IsOwn m (Claims k claim) = IsClaiming m k claim
+IsOwn m (Frees k) = is_claim_of m.cursor.pid (m.claims k) ≡ true
 
 -- .. and so is each of these
 abbrev pub AreOwn : Machine → List Effect → Type 0

@@ -73,7 +73,7 @@ found_free procs l pid window n v e p inside =
 page_of_start : (v : ℕ) → v ≡ 4096 * v / 4096
 page_of_start v = omega arith
 
-map_free : (m : Machine) (virt n : ℕ) (b : Bool) (o : Option Vpn) → least_run m.processes m.ledger m.cursor.pid Map n ≡ o
+pub map_free : (m : Machine) (virt n : ℕ) (b : Bool) (o : Option Vpn) → least_run m.processes m.ledger m.cursor.pid Map n ≡ o
     → not b && any_used m.processes m.ledger (caller_place m virt) n ≡ false → b && is_none o ≡ false
     → HasNoHome m.ledger (caller_place m (if b then PAGE_SIZE * (unwrap_or o (record { 0 = 0 })).0 else virt)) n
 map_free m virt n true None e used found = absurd (false≢true (sym found))
@@ -122,7 +122,7 @@ most_pages : (h b : ℕ) → h + b ≤ 16777216 → h / 4096 + b / 4096 ≤ 4096
 most_pages h b le = omega arith
 
 -- the pages of the heap stand below its end, and the new ones above
-grown_free : (m : Machine) (bytes : ℕ) → Matched m → heap_of m + bytes ≤ 16777216
+pub grown_free : (m : Machine) (bytes : ℕ) → Matched m → heap_of m + bytes ≤ 16777216
     → HasNoHome m.ledger (caller_place m (heap_start + heap_of m)) (bytes / PAGE_SIZE)
 grown_free m bytes h le p inside = go (m.ledger.home p) refl
   where

@@ -1,28 +1,30 @@
 -- The numbers of steps in the records of a run never fall.
-use Rattle.std.proofs.Common.{◌≡◌, ℕ, ◌+◌, ◌≤◌, Bool, true, false, List, [], ◌∷◌, ◌++◌, map, Option, Some, None, refl, sym, ap, subst, arith}
+use Rattle.std.proofs.Common.{◌≡◌, ℕ, ◌+◌, ◌≤◌, List, [], ◌∷◌, ◌++◌, map, Some, refl, ap, arith}
 use Rattle.std.specs.List.{All, AllPairs}
 use Rattle.std.proofs.lemmas.List.Elements.{All-append, All-map, All-nil, All-weaker}
 use Rattle.xk_base.specs.declared.events.Event.{Event}
 use Rattle.xk_base.specs.declared.ids.Pid.{Pid}
-use Rattle.xk_base.specs.declared.ids.ThreadId.{ThreadId}
 use Rattle.xk_base.specs.declared.records.Rec.{Rec}
 use Rattle.xk_base.specs.declared.records.What.{What}
 use Rattle.confidentiality_laws.specs.TwoRuns.{records_by, records_of}
 use Rattle.machine_laws.specs.HistoryMoments.{moments_of}
-use Rattle.machine_laws.proofs.Histories.LimitLemmas.{irq_steps, kill_steps, pick_steps, step_by_counts, turn_steps}
 use Rattle.machine_laws.proofs.Histories.MomentLemmas.{history_is_run}
 use Rattle.machine_model.specs.Ending.Ends.{death}
-use Rattle.machine_model.specs.Runs.Moments.{ByIrq, ByKill, ByPick, ByStep, ByTurn, Cause, IsRun, Moment, caused}
+use Rattle.machine_model.specs.Runs.Moments.{Cause, IsRun, Moment, caused}
 use Rattle.machine_model.specs.State.Changes.{settled}
-use Rattle.machine_model.specs.State.Machine.{Claim, Machine}
-use Rattle.machine_model.specs.State.Order.{actor, turn}
-use Rattle.machine_model.specs.Stepping.Events.{killed, killed_if, picked, raised, raised_if}
+use Rattle.machine_model.specs.State.Machine.{Machine}
 use Rattle.machine_model.specs.Stepping.Interrupts.{pended}
 use Rattle.machine_model.specs.Stepping.Reservations.{unreserved}
-use Rattle.machine_model.specs.Stepping.Step.{acted_if_there, counted, record_of, step, step_by, step_by_if}
+use Rattle.machine_model.specs.Stepping.Step.{counted, record_of}
 use Rattle.machine_model.specs.Stepping.Timer.{timed}
 use Rattle.transcript_laws.specs.RecordOrder.{StepsNeverFall}
 use Rattle.transcript_laws.proofs.Ordering.PairLemmas.{pairs_append, pairs_none, pairs_to_map}
+use Rattle.confidentiality_laws.proofs.CauseCaseLemmas.{CauseCase, Kills, Raises, Rests, Steps, case_of}
+use Rattle.machine_model.specs.Ending.Closing.{closed, senders_held_gone, senders_queued_gone, servers_closed}
+use Rattle.machine_model.specs.Ending.Ends.{forgotten}
+use Rattle.machine_laws.proofs.Threading.ThreadStepLemmas.{turned_to}
+use Rattle.machine_model.proofs.Runs.TimerLemmas.{pended_raised, timed_raised}
+use Rattle.machine_model.specs.Stepping.Step.{Recorded, acted}
 
 -- the record has a number from the one on up to the other
 abbrev IsWithin : ℕ → ℕ → Rec → Type 0
@@ -45,73 +47,43 @@ all_numbered low n high le up told = record {
   pairs = pairs_to_map NotAfter (record_of n) told (λ i j d lt under. omega arith);
 }
 
--- ---- steps
+-- ---- any cause
 
-abbrev step_told : ThreadId → Machine → List What
-step_told who m =
-    (timed (counted (record m { cursor = who }) (m.threads who) (acted_if_there (record m { cursor = who }) (m.threads who)))).told
+death_steps : (pid : Pid) (m : Machine) → (settled (death pid m)).machine.steps ≡ m.steps
+unfolding settled death servers_closed closed senders_queued_gone senders_held_gone forgotten
+death_steps pid m = refl
 
-step_records : (who : ThreadId) (m : Machine) → (step_by who m).records ≡ map (record_of (m.steps + 1)) (step_told who m)
-unfolding step_by
-step_records who m = refl
+-- the count of steps doesn't fall, and the records have numbers from the one count up to the other
+record GoesOn (m : Machine) (next : Recorded) : Type 0 where
+  climbs : m.steps ≤ next.machine.steps
+  numbered : AreNumbered m.steps next.machine.steps next.records
 
-step_numbered : (m : Machine) (o : Option ThreadId) → AreNumbered m.steps (step_by_if o m).machine.steps (step_by_if o m).records
-step_numbered m None = none_numbered m.steps m.steps
-step_numbered m (Some who) =
-    subst (AreNumbered m.steps (step_by who m).machine.steps) (sym (step_records who m))
-    (all_numbered m.steps (m.steps + 1) (step_by who m).machine.steps (omega arith) at_most (step_told who m))
+cause_goes_on : (cause : Cause) (m : Machine) → GoesOn m (record { machine = caused cause m; records = records_by cause m })
+cause_goes_on cause m = by cause (record { machine = caused cause m; records = records_by cause m }) (case_of cause m)
   where
-    at_most : m.steps + 1 ≤ (step_by who m).machine.steps
-    at_most = let e : (step_by who m).machine.steps ≡ m.steps + 1 = step_by_counts who m in omega arith
-
-step_climbs : (m : Machine) (o : Option ThreadId) → m.steps ≤ (step_by_if o m).machine.steps
-step_climbs m None = omega arith
-step_climbs m (Some who) = let e : (step_by who m).machine.steps ≡ m.steps + 1 = step_by_counts who m in omega arith
-
--- ---- events
-
-irq_records : (k : ℕ) (m : Machine) → (raised k m).records ≡ (raised_if k (m.claims k) (unreserved m)).records
-unfolding raised
-irq_records k m = refl
-
-irq_numbered : (k : ℕ) (m : Machine) (o : Option Claim) → AreNumbered m.steps m.steps (raised_if k o (unreserved m)).records
-irq_numbered k m None = none_numbered m.steps m.steps
-irq_numbered k m (Some claim) = all_numbered m.steps m.steps m.steps (omega arith) (omega arith) (settled (pended k claim (unreserved m))).told
-
-kill_records : (pid : Pid) (m : Machine) → (killed pid m).records ≡ (killed_if (m.process pid.0).alive pid (unreserved m)).records
-unfolding killed
-kill_records pid m = refl
-
-kill_numbered : (pid : Pid) (m : Machine) (b : Bool) → AreNumbered m.steps m.steps (killed_if b pid (unreserved m)).records
-kill_numbered pid m false = none_numbered m.steps m.steps
-kill_numbered pid m true = all_numbered m.steps m.steps m.steps (omega arith) (omega arith) (settled (death pid (unreserved m))).told
-
-pick_records : (who : ThreadId) (m : Machine) → (picked who m).records ≡ []
-unfolding picked
-pick_records who m = refl
-
--- ---- whatever it is
-
-cause_numbered : (cause : Cause) (m : Machine) → AreNumbered m.steps (caused cause m).steps (records_by cause m)
-unfolding step
-cause_numbered ByStep m = step_numbered m (actor m)
-cause_numbered (ByPick who) m =
-    subst (AreNumbered m.steps (picked who m).machine.steps) (sym (pick_records who m)) (none_numbered m.steps (picked who m).machine.steps)
-cause_numbered (ByIrq k) m =
-    subst (λ high. AreNumbered m.steps high (raised k m).records) (sym (irq_steps k m))
-    (subst (AreNumbered m.steps m.steps) (sym (irq_records k m)) (irq_numbered k m (m.claims k)))
-cause_numbered (ByKill pid) m =
-    subst (λ high. AreNumbered m.steps high (killed pid m).records) (sym (kill_steps pid m))
-    (subst (AreNumbered m.steps m.steps) (sym (kill_records pid m)) (kill_numbered pid m (m.process pid.0).alive))
-cause_numbered ByTurn m = none_numbered m.steps (turn m).steps
-
-cause_climbs : (cause : Cause) (m : Machine) → m.steps ≤ (caused cause m).steps
-unfolding step
-cause_climbs ByStep m = step_climbs m (actor m)
-cause_climbs (ByPick who) m = let e : (picked who m).machine.steps ≡ m.steps = pick_steps who m in omega arith
-cause_climbs (ByIrq k) m = let e : (raised k m).machine.steps ≡ m.steps = irq_steps k m in omega arith
-cause_climbs (ByKill pid) m = let e : (killed pid m).machine.steps ≡ m.steps = kill_steps pid m in omega arith
-cause_climbs ByTurn m = let e : (turn m).steps ≡ m.steps = turn_steps m in omega arith
+    by : (cause : Cause) (next : Recorded) → CauseCase m cause next → GoesOn m next
+    by _ _ (Rests cause cursor reserved) = record { climbs = omega arith; numbered = none_numbered m.steps m.steps }
+    by _ _ (Steps who t acts there case) =
+        let done = counted (turned_to who m) (Some t) (acted (turned_to who m) t) in
+        let counts : (timed done).machine.steps ≡ m.steps + 1 = ap (λ (x : Machine). x.steps) (timed_raised done).is in
+        record {
+          climbs = omega arith;
+          numbered = all_numbered m.steps (m.steps + 1) (timed done).machine.steps (omega arith) (omega arith) (timed done).told;
+        }
+    by _ _ (Raises k claim e) =
+        let change = pended k claim (unreserved m) in
+        let same : (settled change).machine.steps ≡ m.steps = ap (λ (x : Machine). x.steps) (pended_raised k claim (unreserved m)).is in
+        record {
+          climbs = omega arith;
+          numbered = all_numbered m.steps m.steps (settled change).machine.steps (omega arith) (omega arith) (settled change).told;
+        }
+    by _ _ (Kills pid e) =
+        let change = death pid (unreserved m) in
+        let same : (settled change).machine.steps ≡ m.steps = death_steps pid (unreserved m) in
+        record {
+          climbs = omega arith;
+          numbered = all_numbered m.steps m.steps (settled change).machine.steps (omega arith) (omega arith) (settled change).told;
+        }
 
 -- ---- runs
 
@@ -138,9 +110,9 @@ unfolding IsRun records_of
 run_from start [] run = record { from = All-nil (IsFrom start.steps); pairs = pairs_none NotAfter }
 run_from start (moment ∷ moments) run =
     let same : moment.machine.steps ≡ (caused moment.cause start).steps = ap (λ (m : Machine). m.steps) run.0 in
-    let climbs : start.steps ≤ (caused moment.cause start).steps = cause_climbs moment.cause start in
+    let climbs : start.steps ≤ (caused moment.cause start).steps = (cause_goes_on moment.cause start).climbs in
     joined start.steps moment.machine.steps (caused moment.cause start).steps (records_by moment.cause start) (records_of moment.machine moments)
-    (omega arith) (omega arith) (cause_numbered moment.cause start) (run_from moment.machine moments run.1)
+    (omega arith) (omega arith) (cause_goes_on moment.cause start).numbered (run_from moment.machine moments run.1)
 
 pub run_never_falls : (start : Machine) (moments : List Moment) → IsRun start moments → StepsNeverFall start moments
 run_never_falls start moments run = (run_from start moments run).pairs

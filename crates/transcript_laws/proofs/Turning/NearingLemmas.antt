@@ -15,20 +15,23 @@ use Rattle.machine_model.specs.Ending.Closing.{closed, senders_held_gone, sender
 use Rattle.machine_model.specs.Ending.Ends.{death, forgotten}
 use Rattle.machine_model.specs.Runs.Matched.{Matched}
 use Rattle.machine_model.specs.Runs.Moments.{Cause, ByStep, ByPick, ByIrq, ByKill, ByTurn, caused}
-use Rattle.machine_model.specs.State.Changes.{Change, Delivery, Told, death_told, delivery_told, replies, settled}
+use Rattle.machine_model.specs.State.Changes.{Change, Delivery, death_told, delivery_told, replies, settled}
 use Rattle.machine_model.specs.State.Machine.{Claim, Machine}
 use Rattle.machine_model.specs.State.Order.{actor, next_ready, ready_at, turn}
-use Rattle.machine_model.specs.Stepping.Events.{killed, killed_if, picked, raised, raised_if}
+use Rattle.machine_model.specs.Stepping.Events.{killed, killed_if, raised, raised_if}
 use Rattle.machine_model.specs.Stepping.Interrupts.{cursor_after, delivered}
 use Rattle.machine_model.specs.Stepping.Reservations.{unreserved}
-use Rattle.machine_model.specs.Stepping.Step.{Recorded, acted_if_there, counted, record_of, step}
+use Rattle.machine_model.specs.Stepping.Step.{Recorded, counted, record_of, step}
 use Rattle.machine_model.proofs.Runs.TimerLemmas.{pended_raised, timed_raised}
 use Rattle.machine_model.proofs.StepLemmas.{no_step}
 use Rattle.machine_laws.proofs.Threading.ThreadAnswerLemmas.{ready_thread}
-use Rattle.machine_laws.proofs.Threading.ThreadStepLemmas.{actor_ready, step_of_actor, turned_to}
+use Rattle.machine_laws.proofs.Threading.ThreadStepLemmas.{actor_ready, turned_to}
 use Rattle.transcript_laws.specs.Turns.{KeepsOrder}
 use Rattle.transcript_laws.proofs.Turning.GoingLemmas.{acted_goes_on, delivered_stays, step_goes_on}
 use Rattle.transcript_laws.proofs.Turning.RoundLemmas.{far, next_nearer}
+use Rattle.confidentiality_laws.proofs.CauseCaseLemmas.{CauseCase, Kills, Raises, Rests, Steps, case_of}
+use Rattle.confidentiality_laws.specs.TwoRuns.{records_by}
+use Rattle.machine_model.specs.Stepping.Step.{acted}
 
 -- two ids are one, or they aren't
 pub one_or_other : (a b : ThreadId) → (a ≡ b) ⊎ (a ≢ b)
@@ -174,26 +177,17 @@ cursor_stays ByTurn m order step turn = absurd (turn refl)
 
 -- ---- there are as many processes
 
+death_processes : (pid : Pid) (m : Machine) → (settled (death pid m)).machine.processes ≡ m.processes
+unfolding settled death servers_closed closed senders_queued_gone senders_held_gone forgotten
+death_processes pid m = refl
+
 pub processes_stay : (cause : Cause) (m : Machine) → (caused cause m).processes ≡ m.processes
-unfolding picked raised killed turn settled death servers_closed closed senders_queued_gone senders_held_gone forgotten
-processes_stay ByStep m = go (actor m) refl
+processes_stay cause m = by cause (record { machine = caused cause m; records = records_by cause m }) (case_of cause m)
   where
-    go : (o : Option ThreadId) → actor m ≡ o → (step m).machine.processes ≡ m.processes
-    go None e = ap (λ (s : Recorded). s.machine.processes) (no_step m e)
-    go (Some who) e =
-        let turned : Machine = turned_to who m in
-        let done : Told = counted turned (m.threads who) (acted_if_there turned (m.threads who)) in
-        ap (λ (x : Machine). x.processes) (step_of_actor m who e ∙ (timed_raised done).is)
-        ∙ (acted_goes_on turned (m.threads who)).processes
-processes_stay (ByPick who) m = refl
-processes_stay (ByIrq k) m = go (m.claims k)
-  where
-    go : (o : Option Claim) → (raised_if k o (unreserved m)).machine.processes ≡ m.processes
-    go None = refl
-    go (Some claim) = ap (λ (x : Machine). x.processes) (pended_raised k claim (unreserved m)).is
-processes_stay (ByKill pid) m = go (m.process pid.0).alive
-  where
-    go : (b : Bool) → (killed_if b pid (unreserved m)).machine.processes ≡ m.processes
-    go true = refl
-    go false = refl
-processes_stay ByTurn m = refl
+    by : (cause : Cause) (next : Recorded) → CauseCase m cause next → next.machine.processes ≡ m.processes
+    by _ _ (Rests cause cursor reserved) = refl
+    by _ _ (Steps who t acts is_there case) =
+        let done = counted (turned_to who m) (Some t) (acted (turned_to who m) t) in
+        ap (λ (x : Machine). x.processes) (timed_raised done).is ∙ (acted_goes_on (turned_to who m) (Some t)).processes
+    by _ _ (Raises k claim e) = ap (λ (x : Machine). x.processes) (pended_raised k claim (unreserved m)).is
+    by _ _ (Kills pid e) = death_processes pid (unreserved m)
