@@ -73,7 +73,7 @@ class Check:
         """Whether it came to a verdict. A line that can't be read in the crate's own code and specs is none."""
         errors = (ERROR.match(line) for line in self.lines)
         unread = any(it and it[1].startswith(("src/", "specs/")) and (not it[2] or NO_NAME.search(it[3])) for it in errors)
-        return self.lines[-1].startswith("logic=") and not unread
+        return self.lines[-1].startswith(("logic=", "only=")) and not unread
 
     def fell(self):
         """The functions that aren't proved for a reason of their own."""
@@ -102,13 +102,6 @@ def build_below(crate):
     subprocess.run(["rt", "check", "--only="], cwd=crate.folder, stdout=subprocess.DEVNULL, stderr=subprocess.STDOUT, check=False)
 
 
-def check_as_it_stands(crate, jobs):
-    """Proves the crate, as `rt check` does."""
-    words = ["rt", "check", "--jobs", str(jobs)]
-    ran = subprocess.run(words, cwd=crate.folder, stdout=subprocess.PIPE, stderr=subprocess.STDOUT, text=True, errors="replace")
-    return Check(ran.returncode, ran.stdout)
-
-
 def link_or_copy(one, other):
     """What was proved is linked: a check replaces such a file, and doesn't write into it."""
     try:
@@ -119,9 +112,10 @@ def link_or_copy(one, other):
     return shutil.copy2(one, other)
 
 
-def check_with(crate, texts, jobs, is_first=False):
-    """Checks a copy of the crate with these texts in the place of its own. The first check keeps what it proves where `rt check` does; the
-    others begin with that, and keep nothing."""
+def check_with(crate, texts, paths, jobs, is_first=False):
+    """Checks the functions of these paths and those that they call, in a copy of the crate with these texts in the place of its own;
+    without a path the whole crate. The first check keeps what it proves where `rt check` does; the others begin with that, and keep
+    nothing."""
     with tempfile.TemporaryDirectory(prefix="try-edits-") as folder:
         room = pathlib.Path(folder)
         for part in PARTS:
@@ -130,10 +124,13 @@ def check_with(crate, texts, jobs, is_first=False):
         for name, text in texts.items():
             (room / name).write_text(text)
         kept = crate.folder / KEPT if is_first else room / "kept"
-        if is_first:
+        if is_first or not (crate.folder / KEPT).is_dir():
             kept.mkdir(parents=True, exist_ok=True)
         else:
             shutil.copytree(crate.folder / KEPT, kept, symlinks=True, copy_function=link_or_copy)
         words = [*crate.words(jobs), "--incremental", kept]
+        words += [word for path in paths for word in ("--only", path)]
         ran = subprocess.run(words, cwd=room, stdout=subprocess.PIPE, stderr=subprocess.STDOUT, text=True, errors="replace")
+    if paths and ran.returncode == 2:  # one of them fits no function
+        return check_with(crate, texts, [], jobs, is_first)
     return Check(ran.returncode, ran.stdout)

@@ -17,6 +17,11 @@ class Function:
     trait: str  # that it is a method of, or empty
     name: str
 
+    def path(self):
+        """Its path below the crate, or that of its module where it is a method of a trait; empty at the crate's root then."""
+        own = [] if self.trait else [self.type, self.name]
+        return "::".join(filter(None, [*self.module, *own]))
+
 
 def modules_of(file):
     parts = file.removeprefix("src/").removesuffix(".rt").split("/")

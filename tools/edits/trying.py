@@ -45,6 +45,12 @@ def rounds_of(trials):
     return [[of[number] for of in of_function.values() if number < len(of)] for number in range(most)] + alone
 
 
+def paths_of(trials):
+    """The functions that a check has to prove for these edits; none where one stands in no function, and the whole crate is to be proved."""
+    paths = [trial.function and trial.function.path() for trial in trials]
+    return [*dict.fromkeys(paths)] if all(paths) else []
+
+
 def texts_with_all(crate, trials):
     """The texts of the files that the edits change; None where one of them makes the text of another twice."""
     try:
@@ -58,7 +64,7 @@ def try_round(crate, trials, jobs):
     texts = texts_with_all(crate, trials)
     if not texts:
         return try_parts(crate, trials, 1, jobs)
-    said = checks.check_with(crate, texts, jobs)
+    said = checks.check_with(crate, texts, paths_of(trials), jobs)
     if len(trials) == 1:
         judge_alone(trials[0], said)
         return 1
@@ -88,7 +94,7 @@ def judge(trial, said, fell):
 def judge_alone(trial, said):
     last = said.lines[-1]
     if said.status == 0:
-        trial.end(NOT_REFUSED, "the crate is still proved")
+        trial.end(NOT_REFUSED, f"{', '.join(sorted(trial.symbols)) or 'the crate'} is still proved")
     elif said.status < 0 or said.status == 3:
         trial.end(UNSURE, f"the check ended with status {said.status}: {last}")
     elif not said.has_verdict():
@@ -114,21 +120,22 @@ def is_told_apart(trials, said):
 
 
 def try_first(crate, trials, first, jobs):
-    """Tries edits in a check from nothing, which also proves every other function, for the checks that follow. The crate is proved as
-    it stands only where that check can't tell its edits apart; ValueError where it isn't proved then."""
+    """Tries edits in a check from nothing, which also proves what the functions of all edits rest on, for the checks that follow. These
+    are proved as they stand only where that check can't tell its edits apart; ValueError where they aren't proved then."""
+    paths = paths_of([trial for trial in trials if trial.function])
     texts = texts_with_all(crate, first)
-    said = texts and checks.check_with(crate, texts, jobs, is_first=True)
+    said = texts and checks.check_with(crate, texts, paths, jobs, is_first=True)
     if said and said.has_verdict():
         name_functions(crate, trials, said)
         if is_told_apart(first, said):
             for trial in first:
                 judge(trial, said, said.fell())
             return 1 + try_parts(crate, [trial for trial in first if not trial.verdict], 1, jobs)
-    base = checks.check_as_it_stands(crate, jobs)
+    base = checks.check_with(crate, {}, paths, jobs, is_first=True)
     if base.status:
         raise ValueError(f"{crate.name} isn't proved as it stands: {base.lines[-1]}")
     name_functions(crate, trials, base)
-    return 1 + try_parts(crate, first, 1 if len(first) < 4 else len(first) // 2, jobs)
+    return 2 + try_parts(crate, first, 1 if len(first) < 4 else len(first) // 2, jobs)
 
 
 def try_all(crate, trials, jobs):

@@ -36,6 +36,7 @@ fn small::a::user: no proof: it calls `small::a::last`, which is not proved
 logic=not-proved
 """
 UNREAD = "src/a.rt:3:7: error: `size` is not in scope\nlogic=not-proved\n"
+OF_SOME = "fn small::a::first: proved\nonly=1 proved=1\n"
 STOPPED = "src/a.rt:3:7: error[unknown-name]: cannot find value `m` in this scope\n"
 
 LIBRARY = """\
@@ -81,6 +82,7 @@ def checks_of_functions():
     symbols = ["small::a::b::LinesReader::next", "small::a::b::fn::LinesReader::next::map", "small::a::b::first", "small::a::b::LinesReader::first"]
     yield functions.symbols_of(found[0], "small", symbols) == {*symbols[:2]}, "the names of a method and of its closure in a check"
     yield functions.symbols_of(found[1], "small", symbols) == {symbols[2]}, "the name of a function in a check"
+    yield [it.path() for it in found] == ["a::b", "a::b::first"], "what a check is asked for: a function, or the module of a trait's method"
 
 
 def checks_of_words():
@@ -88,6 +90,7 @@ def checks_of_words():
     yield said.has_verdict() and said.fell() == {"small::a::last", "small::a::middle"}, "the functions that fell themselves"
     yield said.reason("small::a::last") == ("small::a::last: returns", False), "the goal of a function that fell"
     yield said.reason("small::a::middle")[1], "a function that fell for a name that was taken away"
+    yield crate_checks.Check(0, OF_SOME).has_verdict(), "a check of some functions"
     yield not crate_checks.Check(1, UNREAD).has_verdict() and not crate_checks.Check(1, STOPPED).has_verdict(), "a check that came to no verdict"
 
 
