@@ -18,9 +18,11 @@ class Function:
     name: str
 
     def path(self):
-        """Its path below the crate, or that of its module where it is a method of a trait; empty at the crate's root then."""
-        own = [] if self.trait else [self.type, self.name]
-        return "::".join(filter(None, [*self.module, *own]))
+        """What a check is asked for: a function by its path below the crate, a method by the end of its name, for its type may be of another
+        module, and a method of a trait by its module; empty at the crate's root then."""
+        if self.type and not self.trait:
+            return f"{self.type}::{self.name}"
+        return "::".join([*self.module, *([] if self.trait else [self.name])])
 
 
 def modules_of(file):
@@ -88,14 +90,15 @@ def is_named(function, path):
 
 
 def symbols_of(function, crate, symbols):
-    """The name of the function in a check, with the names of the closures in its body; empty where it isn't sure."""
-    below = [crate, *function.module]
+    """The name of the function in a check, with the names of the closures in its body; empty where it isn't sure. A method is named by the
+    module of its type."""
     own, closures = [], []
     for symbol in symbols:
-        path = symbol.split("::")
-        if path[: len(below)] != below:
+        parts = symbol.split("::")
+        at = parts.index("fn") if "fn" in parts else len(parts) - (2 if function.type else 1)
+        module, path = parts[:at], parts[at:]
+        if module[:1] != [crate] or not function.type and module[1:] != [*function.module]:
             continue
-        path = path[len(below) :]
         if is_named(function, path):
             own.append(symbol)
         elif path[0] == "fn" and any(is_named(function, path[1:end]) for end in (2, 3)):

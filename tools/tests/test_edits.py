@@ -83,6 +83,10 @@ def checks_of_functions():
     yield functions.symbols_of(found[0], "small", symbols) == {*symbols[:2]}, "the names of a method and of its closure in a check"
     yield functions.symbols_of(found[1], "small", symbols) == {symbols[2]}, "the name of a function in a check"
     yield [it.path() for it in found] == ["a::b", "a::b::first"], "what a check is asked for: a function, or the module of a trait's method"
+    method = functions.Function("src/a/b.rt", 1, 2, ("a", "b"), "Lines", "", "take")
+    symbols = ["small::a::Lines::take", "small::a::fn::Lines::take::find", "small::a::b::take", "small::a::Line::take"]
+    yield functions.symbols_of(method, "small", symbols) == {*symbols[:2]}, "the name of a method whose type is of another module"
+    yield method.path() == "Lines::take", "what a check is asked for: a method"
 
 
 def checks_of_words():
