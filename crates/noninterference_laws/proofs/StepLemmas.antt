@@ -1,7 +1,7 @@
 -- Faults, ends of threads and of handlers, kills, and every other cause keep what is another's.
-use Rattle.std.proofs.Common.{◌≡◌, ◌≢◌, ℕ, Bool, ◌&&◌, true, false, [], Option, Some, None, refl, sym, ap, ◌∙◌, subst}
+use Rattle.std.proofs.Common.{◌≡◌, ◌≢◌, ℕ, Bool, ◌&&◌, true, false, Option, Some, None, refl, sym, ap, ◌∙◌, subst}
 use Rattle.std.specs.Prelude.{nat_eq, if◌then◌else◌}
-use Rattle.std.specs.Option.{option_and_then, option_map, option_map_or, option_or}
+use Rattle.std.specs.Option.{option_map, option_map_or, option_or}
 use Rattle.std.proofs.lemmas.Bool.{false≢true}
 use Rattle.xk_base.specs.declared.ids.Pid.{Pid}
 use Rattle.xk_base.specs.declared.ids.ThreadId.{ThreadId}
@@ -17,21 +17,21 @@ use Rattle.machine_model.specs.State.Changes.{Change, settled}
 use Rattle.machine_model.specs.State.Machine.{Claim, Idle, Machine, Thread}
 use Rattle.machine_model.specs.State.Order.{actor, turn}
 use Rattle.machine_model.specs.State.Threads.{put_thread, thread_id, with_state}
-use Rattle.machine_model.specs.Stepping.Acts.{does_instruction, executes, words_if_call}
+use Rattle.machine_model.specs.Stepping.Acts.{does_instruction, executes}
 use Rattle.machine_model.specs.Stepping.Events.{killed, killed_if, picked, raised, raised_if}
 use Rattle.machine_model.specs.Stepping.Interrupts.{delivered, delivered_lowest, handler_started, is_claim_of, is_free_for_interrupt, lowest_pending}
 use Rattle.machine_model.specs.Stepping.Reservations.{unreserved}
-use Rattle.machine_model.specs.Stepping.Step.{acted, ends_handler, performed, step}
+use Rattle.machine_model.specs.Stepping.Step.{acted, step}
 use Rattle.machine_model.proofs.Runs.TimerLemmas.{pended_raised}
-use Rattle.machine_laws.proofs.Stepping.StepKindLemmas.{Executes, HandlerEnds, StepKind, ThreadEnds, acted_as_executed, is_call, is_done, kind_of}
+use Rattle.machine_laws.proofs.Stepping.StepKindLemmas.{is_call, is_done}
 use Rattle.machine_laws.proofs.Threading.ThreadAnswerLemmas.{same_thread-self}
-use Rattle.machine_laws.proofs.Threading.ThreadStepLemmas.{acted_call, then_acted, turned_to}
+use Rattle.machine_laws.proofs.Threading.ThreadStepLemmas.{turned_to}
 use Rattle.confidentiality_laws.proofs.CauseCaseLemmas.{ActCase, EndsHandler, EndsThread, Instructs, act_of}
 use Rattle.noninterference_laws.proofs.InstructionLemmas.{delivery_other, instruction_leaves, other_thread, unanswered}
 use Rattle.noninterference_laws.proofs.PendingLemmas.{lowest_claimed, pended_pending, started_pending}
 use Rattle.noninterference_laws.specs.Causes.{AllKeepOthers, LeavesAll, by_kill, by_step, is_of_claimant}
 use Rattle.noninterference_laws.specs.Fates.{Doing, MadeCall}
-use Rattle.noninterference_laws.specs.KeptOthers.{KeepsOthers, by_call}
+use Rattle.noninterference_laws.specs.KeptOthers.{KeepsOthers}
 use Rattle.noninterference_laws.proofs.AnswerLemmas.{either_why, not_why}
 use Rattle.noninterference_laws.proofs.CallLemmas.{called_parts}
 use Rattle.noninterference_laws.proofs.DeathLemmas.{dead_claims, dead_pages, dead_pending, dead_processes, dead_servers, dead_threads}

@@ -26,11 +26,11 @@ pub fn unwound_groups_tell_alike()
 
 /// **A secret sum stays secret.** A service of eleven instructions adds a word of each message to a sum in its own page, and answers.
 /// "They differ in the sum alone" is an unwinding. So the histories of two states that differ in the sum alone, over one list of events,
-/// have the same records, whatever other processes do. A process that begins with the program runs it.
+/// have the same records, whatever other processes do. A process that begins with the program runs it, and there is such a machine.
 pub fn secret_sums_are_exchanged()
     ensures unwinding { (pid : Pid) → IsUnwinding (only_process pid) (DifferInSumAlone pid) }
     ensures begins { (pid : Pid) (m : Machine) → BeginsProgram pid m → RunsProgram pid m }
-    ensures witness { (sum : ℕ) → RunsProgram (pid_of 2) (summing_machine sum) }
+    ensures witness { (sum : ℕ) → BeginsProgram (pid_of 2) (summing_machine sum) }
     ensures related { (pid : Pid) (m : Machine) (sum : ℕ) → RunsProgram pid m → DifferInSumAlone pid m (with_sum pid sum m) }
     ensures histories { (pid : Pid) (events : List Event) (limit : ℕ) (m : Machine) (sum : ℕ) → Matched m → RunsProgram pid m
         → TellTheSameOutside (only_process pid) (history events limit m) (history events limit (with_sum pid sum m)) }

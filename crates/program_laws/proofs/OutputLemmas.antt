@@ -21,7 +21,7 @@ use Rattle.xk_kernel.specs.Start.{start}
 use Rattle.xk_kernel.proofs.Starting.FirstLawfulLemmas.{start_of_plan_matched}
 use Rattle.event_player.specs.History.{end_of, run_of}
 use Rattle.event_player.specs.Table.{orphan_line, orphans_text, page_line, pages_text, table_of}
-use Rattle.event_player.specs.Telling.{closing, last_line, output, told}
+use Rattle.event_player.specs.Telling.{closing, last_line, told}
 use Rattle.event_player.specs.declared.ending.Ending.{Ending}
 use Rattle.event_player.specs.declared.ending.Ending.TheVariants.{LimitMet}
 use Rattle.event_player.specs.declared.telling.Telling.{Telling}

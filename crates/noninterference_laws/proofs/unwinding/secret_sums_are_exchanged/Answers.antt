@@ -1,4 +1,4 @@
-use Rattle.noninterference_laws.proofs.Unwound.WitnessLemmas.{summing_runs}
+use Rattle.noninterference_laws.proofs.Unwound.WitnessLemmas.{summing_begins}
 use Rattle.noninterference_laws.proofs.Unwound.SumLemmas.{begins_program, sum_unwinds, sums_differ, sums_tell_alike}
 use Rattle.noninterference_laws.proofs.unwinding.secret_sums_are_exchanged.Goals as goal
 
@@ -12,7 +12,7 @@ returns-clause-begins c = begins_program
 
 -- src/unwinding.rt
 pub returns-clause-witness : goal.returns-clause-witness
-returns-clause-witness c = summing_runs
+returns-clause-witness c = summing_begins
 
 -- src/unwinding.rt
 pub returns-clause-related : goal.returns-clause-related
