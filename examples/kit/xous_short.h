@@ -1,5 +1,6 @@
 /* The names of the kit without xous_ and XOUS_, for a program whose own names are others: `need(open_console(&console))`.
- * They are macros, so this header comes behind those of other libraries. A server's name is SERVER("fill"). */
+ * They are macros, so this header comes behind those of other libraries. A server's name is SERVER("fill").
+ * tools/make-lists makes this file of the kit's headers. */
 #ifndef XOUS_SHORT_H
 #define XOUS_SHORT_H
 
@@ -15,44 +16,45 @@ typedef xous_word word;
 
 #define reply xous_reply
 #define identifier xous_identifier
+#define memory_flags xous_memory_flags
+#define message_word xous_message_word
+#define call_number xous_call_number
 #define reply_kind xous_reply_kind
 #define error xous_error
 #define message_kind xous_message_kind
-#define memory_flags xous_memory_flags
-#define message_word xous_message_word
 #define message xous_message
 #define log xous_log
 #define digits xous_digits
 
-/* Calls */
+/* Functions */
 
-#define map_memory(...) xous_map_memory(__VA_ARGS__)
-#define unmap_memory(...) xous_unmap_memory(__VA_ARGS__)
-#define update_memory_flags(...) xous_update_memory_flags(__VA_ARGS__)
-#define increase_heap(...) xous_increase_heap(__VA_ARGS__)
-#define decrease_heap(...) xous_decrease_heap(__VA_ARGS__)
-#define yield(...) xous_yield(__VA_ARGS__)
-#define create_thread(...) xous_create_thread(__VA_ARGS__)
-#define join_thread(...) xous_join_thread(__VA_ARGS__)
-#define terminate_process(...) xous_terminate_process(__VA_ARGS__)
-#define get_thread_id(...) xous_get_thread_id(__VA_ARGS__)
-#define get_process_id(...) xous_get_process_id(__VA_ARGS__)
-#define create_server_with_address(...) xous_create_server_with_address(__VA_ARGS__)
-#define connect(...) xous_connect(__VA_ARGS__)
-#define try_connect(...) xous_try_connect(__VA_ARGS__)
-#define destroy_server(...) xous_destroy_server(__VA_ARGS__)
-#define receive_message(...) xous_receive_message(__VA_ARGS__)
-#define try_receive_message(...) xous_try_receive_message(__VA_ARGS__)
-#define send_message(...) xous_send_message(__VA_ARGS__)
-#define try_send_message(...) xous_try_send_message(__VA_ARGS__)
-#define return_memory(...) xous_return_memory(__VA_ARGS__)
-#define return_scalar1(...) xous_return_scalar1(__VA_ARGS__)
-#define return_scalar2(...) xous_return_scalar2(__VA_ARGS__)
-#define forward_message(...) xous_forward_message(__VA_ARGS__)
-#define claim_interrupt(...) xous_claim_interrupt(__VA_ARGS__)
-#define free_interrupt(...) xous_free_interrupt(__VA_ARGS__)
 #define map_console(...) xous_map_console(__VA_ARGS__)
 #define print(...) xous_print(__VA_ARGS__)
+#define map_memory(...) xous_map_memory(__VA_ARGS__)
+#define yield(...) xous_yield(__VA_ARGS__)
+#define claim_interrupt(...) xous_claim_interrupt(__VA_ARGS__)
+#define free_interrupt(...) xous_free_interrupt(__VA_ARGS__)
+#define increase_heap(...) xous_increase_heap(__VA_ARGS__)
+#define decrease_heap(...) xous_decrease_heap(__VA_ARGS__)
+#define update_memory_flags(...) xous_update_memory_flags(__VA_ARGS__)
+#define create_server_with_address(...) xous_create_server_with_address(__VA_ARGS__)
+#define receive_message(...) xous_receive_message(__VA_ARGS__)
+#define send_message(...) xous_send_message(__VA_ARGS__)
+#define connect(...) xous_connect(__VA_ARGS__)
+#define create_thread(...) xous_create_thread(__VA_ARGS__)
+#define unmap_memory(...) xous_unmap_memory(__VA_ARGS__)
+#define return_memory(...) xous_return_memory(__VA_ARGS__)
+#define terminate_process(...) xous_terminate_process(__VA_ARGS__)
+#define try_send_message(...) xous_try_send_message(__VA_ARGS__)
+#define try_connect(...) xous_try_connect(__VA_ARGS__)
+#define return_scalar1(...) xous_return_scalar1(__VA_ARGS__)
+#define return_scalar2(...) xous_return_scalar2(__VA_ARGS__)
+#define try_receive_message(...) xous_try_receive_message(__VA_ARGS__)
+#define join_thread(...) xous_join_thread(__VA_ARGS__)
+#define destroy_server(...) xous_destroy_server(__VA_ARGS__)
+#define get_thread_id(...) xous_get_thread_id(__VA_ARGS__)
+#define get_process_id(...) xous_get_process_id(__VA_ARGS__)
+#define forward_message(...) xous_forward_message(__VA_ARGS__)
 #define error_of(...) xous_error_of(__VA_ARGS__)
 #define take_word(...) xous_take_word(__VA_ARGS__)
 #define need(...) xous_need(__VA_ARGS__)
@@ -87,6 +89,25 @@ typedef xous_word word;
 
 /* Numbers */
 
+#define R XOUS_R
+#define W XOUS_W
+#define X XOUS_X
+#define PAGE_SIZE XOUS_PAGE_SIZE
+#define FIRST_STACK XOUS_FIRST_STACK
+#define FIRST_STACK_SIZE XOUS_FIRST_STACK_SIZE
+#define HANDLER_STACK XOUS_HANDLER_STACK
+#define HANDLER_STACK_SIZE XOUS_HANDLER_STACK_SIZE
+#define CONSOLE XOUS_CONSOLE
+#define TIMER_INTERRUPT XOUS_TIMER_INTERRUPT
+#define TIMER XOUS_TIMER
+#define TOKEN XOUS_TOKEN
+#define KIND XOUS_KIND
+#define ID XOUS_ID
+#define ARGUMENT XOUS_ARGUMENT
+#define ADDRESS XOUS_ADDRESS
+#define LENGTH XOUS_LENGTH
+#define OFFSET XOUS_OFFSET
+#define VALID XOUS_VALID
 #define MAP_MEMORY XOUS_MAP_MEMORY
 #define YIELD XOUS_YIELD
 #define CLAIM_INTERRUPT XOUS_CLAIM_INTERRUPT
@@ -145,25 +166,6 @@ typedef xous_word word;
 #define MOVE XOUS_MOVE
 #define SCALAR XOUS_SCALAR
 #define BLOCKING_SCALAR XOUS_BLOCKING_SCALAR
-#define R XOUS_R
-#define W XOUS_W
-#define X XOUS_X
-#define PAGE_SIZE XOUS_PAGE_SIZE
-#define FIRST_STACK XOUS_FIRST_STACK
-#define FIRST_STACK_SIZE XOUS_FIRST_STACK_SIZE
-#define HANDLER_STACK XOUS_HANDLER_STACK
-#define HANDLER_STACK_SIZE XOUS_HANDLER_STACK_SIZE
-#define CONSOLE XOUS_CONSOLE
-#define TIMER_INTERRUPT XOUS_TIMER_INTERRUPT
-#define TIMER XOUS_TIMER
-#define TOKEN XOUS_TOKEN
-#define KIND XOUS_KIND
-#define ID XOUS_ID
-#define ARGUMENT XOUS_ARGUMENT
-#define ADDRESS XOUS_ADDRESS
-#define LENGTH XOUS_LENGTH
-#define OFFSET XOUS_OFFSET
-#define VALID XOUS_VALID
 #define LOG_SERVER XOUS_LOG_SERVER
 #define LOG_TEXT XOUS_LOG_TEXT
 

@@ -1,6 +1,7 @@
 """System calls as the crates define them: the numbers of calls, replies, errors and kinds of messages, and the words of each call.
 
-`made` is the text of tools/xous/numbers.py, by which the tools know them. `wrong_numbers` names each other list that differs.
+`made` is the text of tools/xous/numbers.py, by which the tools know them, and `word_rows` the table of docs/transcript.md.
+`wrong_numbers` names each other list that differs.
 """
 
 import pathlib
@@ -43,14 +44,25 @@ def cases(text: str, function: str) -> dict[str, int]:
     return {name: int(number) for name, number in re.findall(rf"^{function} (\w+) = (\d+)$", text, re.M)}
 
 
-def fields() -> dict[str, list[tuple[str, int]]]:
-    """Of each call the fields behind its number, with how many words each has."""
+def variants() -> str:
+    """The variants of the enum of calls, as its source has them."""
     text = (CODEC / "src" / "calls.rt").read_text(encoding="utf-8")
     body = re.search(r"^pub enum Call \{\n(.*?)^\}", text, re.M | re.S)
     if not body:
         raise Unread("crates/syscall_codec/src/calls.rt: no enum Call")
+    return body[1]
+
+
+def comments() -> dict[str, str]:
+    """Of each call what its variant's comment says."""
+    found = re.findall(r"((?:^    ///.*\n)+)    (\w+)", variants(), re.M)
+    return {name: " ".join(line.strip().removeprefix("/// ") for line in text.splitlines()) for text, name in found}
+
+
+def fields() -> dict[str, list[tuple[str, int]]]:
+    """Of each call the fields behind its number, with how many words each has."""
     found = {}
-    for name, inside in re.findall(r"^    (\w+)(?: \{\n(.*?)^    \})?,$", body[1], re.M | re.S):
+    for name, inside in re.findall(r"^    (\w+)(?: \{\n(.*?)^    \})?,$", variants(), re.M | re.S):
         found[name] = [(field, WORDS[kind]) for field, kind in re.findall(r"^ +(\w+): (.*),$", inside, re.M)]
     return found
 
@@ -95,6 +107,21 @@ def made() -> str:
     )
 
 
+# What docs/transcript.md calls a field, where the definitions have another name; others stand by their own.
+PLAIN = {"arg": "argument", "sid": "identifier", "cid": "connection", "exit": "exit word", "words": "four words", "args": "four arguments"}
+
+
+def word_rows() -> list[str]:
+    """The table of calls with their words, two calls in a row."""
+    cells = []
+    for number, (name, words) in calls().items():
+        of_call = ", ".join(PLAIN.get(field, field) for field, _ in words)
+        cells.append(f"| `{number:02x}` | {name}{f': {of_call}' if of_call else ''} ")
+    half = (len(cells) + 1) // 2
+    right = cells[half:] + ["| | "] * (2 * half - len(cells))
+    return ["| Word | Call | Word | Call |", "|---|---|---|---|", *(f"{each}{other}|" for each, other in zip(cells[:half], right))]
+
+
 # Other lists, by hand.
 
 
@@ -126,20 +153,12 @@ def wrong_numbers() -> Iterator[str]:
     page = "docs/definitions.md"
     rows = {name: int(number) for name, number in listed(page, r"\b([A-Z]\w+) \((\d+)\)")}
     yield from differing(page, rows, by_name, False)
-    page = "docs/transcript.md"
-    words = {name: int(number, 16) for number, name in listed(page, r"`([0-9a-f]{2})` \| ([A-Z]\w+)")}
-    yield from differing(page, words, by_name, True)
     path = "crates/case_files/src/acts.rt"
     acts = {name: int(number) for name, number in listed(path, r'"(\w+)" => Some\((\d+)\)')}
     yield from differing(path, acts, by_name, False)
     path = "crates/syscall_codec/src/numbers.rt"
     codec = {name: int(number) for name, number in listed(path, r"^pub const (\w+): u32 = (\d+);")}
     yield from differing(path, codec, by_constant, True)
-    path = "examples/kit/xous.h"
-    header = {name: int(number) for name, number in listed(path, r"^ +XOUS_(\w+) = (\d+),")}
-    yield from differing(path, header, by_constant, True)
-    yield from differing(path, header, {capitals(name): number for number, name in errors().items()}, True)
-    yield from differing(path, header, {name.upper(): number for name, number in replies().items()}, True)
     path = "examples/kit/rust/xous/src/call.rs"
     rust = {name.replace("_1", "1").replace("_2", "2"): int(number) for name, number in listed(path, r"const (\w+): u32 = (\d+);")}
     yield from differing(path, rust, by_constant, False)

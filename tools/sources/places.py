@@ -4,6 +4,7 @@ import pathlib
 import re
 from collections.abc import Iterator
 
+from . import kit
 from .calls import MADE, capitals
 
 ROOT = pathlib.Path(__file__).resolve().parents[2]
@@ -11,8 +12,9 @@ ROOT = pathlib.Path(__file__).resolve().parents[2]
 CALLS = (("GetProcessId", "process_id"), ("DecreaseHeap", "decrease"))
 PARTS = ("src", "specs", "proofs", "data")  # of a crate
 OTHERS = ("docs", "examples/kit", "tools/xous", "tools/tests")
-# Made by tools/make-lists.
-LEFT_OUT = (MADE, ROOT / "docs" / "definitions.md", ROOT / "docs" / "architecture.md")
+# Made by tools/make-lists, as files and in pages.
+LEFT_OUT = (MADE, kit.CALLS_H, kit.SHORT_H, ROOT / "docs" / "definitions.md", ROOT / "docs" / "architecture.md")
+MADE_LIST = re.compile(r"<!-- ([\w ]+): made by tools/make-lists -->.*?<!-- end of the \1 -->", re.S)
 
 
 def names_of(call: str, stem: str) -> list[str]:
@@ -25,7 +27,7 @@ NAMED = {call: re.compile(rf"(?:\b|XOUS_|xous_)(?:{'|'.join(names)})") for call,
 
 def named_in(path: pathlib.Path) -> list[str]:
     """The calls that a file names."""
-    text = path.read_text(encoding="utf-8", errors="replace") if path.is_file() else ""
+    text = MADE_LIST.sub("", path.read_text(encoding="utf-8", errors="replace")) if path.is_file() else ""
     return [call for call, names in NAMES.items() if any(name in text for name in names) and NAMED[call].search(text)]
 
 

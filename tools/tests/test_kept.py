@@ -28,7 +28,8 @@ class Package(Case):
 class Kits(Case):
     def test_examples_to_copy(self):
         """They make each call by its function that says its error, which the compiler makes one look at."""
-        plain = re.findall(r"^XOUS_INLINE struct xous_reply (xous_\w+)\(", (KIT / "xous.h").read_text(), re.M)
+        headers = "\n".join((KIT / name).read_text() for name in ("xous.h", "calls.h"))
+        plain = re.findall(r"^XOUS_INLINE struct xous_reply (xous_\w+)\(", headers, re.M)
         self.assertGreater(len(plain), 25)
         for name in COPIED:
             for path, text in texts(EXAMPLES / name, "*.[ch]").items():

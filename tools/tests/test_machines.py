@@ -18,7 +18,8 @@ from .test_shake import STAND_IN, Shaken
 
 SHARES = (1, 2, 3)
 SECONDS = 60  # until a daemon has to answer
-LINES = re.findall(r"^    (.*)$", (ROOT / "docs" / "orders.md").read_text().split("## Many machines")[1], re.M)
+PART = (ROOT / "docs" / "orders.md").read_text().split("## Many machines")[1]
+LINES = re.findall(r"^    (.*)$", re.sub(r"\\\n *", "", PART), re.M)  # those that go on are joined
 
 
 def line_of(part):

@@ -3,7 +3,7 @@
 import shutil
 from unittest import mock
 
-from sources import calls, doubles, libraries, places
+from sources import calls, doubles, kit, libraries, places
 from xous import names, numbers
 
 from .frame import ROOT, Case
@@ -12,13 +12,9 @@ from .frame import ROOT, Case
 LISTS = (
     ("docs/calls.md", "JoinThread (36)", "JoinThread (37)", "JoinThread is 36, not 37"),
     ("docs/calls.md", "JoinThread (36)", "JoinThread", "JoinThread (36) is missing"),
-    ("docs/transcript.md", "`24` | JoinThread", "`25` | JoinThread", "JoinThread is 36, not 37"),
     ("docs/definitions.md", "JoinThread (36)", "JoinThread (37)", "JoinThread is 36, not 37"),
     ("crates/case_files/src/acts.rt", '"JoinThread" => Some(36)', '"JoinThread" => Some(37)', "JoinThread is 36, not 37"),
     ("crates/syscall_codec/src/numbers.rt", "JOIN_THREAD: u32 = 36", "JOIN_THREAD: u32 = 37", "JOIN_THREAD is 36, not 37"),
-    ("examples/kit/xous.h", "XOUS_JOIN_THREAD = 36", "XOUS_JOIN_THREAD = 37", "JOIN_THREAD is 36, not 37"),
-    ("examples/kit/xous.h", "XOUS_DOUBLE_FREE = 25", "XOUS_DOUBLE_FREE = 26", "DOUBLE_FREE is 25, not 26"),
-    ("examples/kit/xous.h", "XOUS_NEW_SERVER = 19", "XOUS_NEW_SERVER = 20", "NEW_SERVER is 19, not 20"),
     ("examples/kit/rust/xous/src/call.rs", "CONNECT: u32 = 17", "CONNECT: u32 = 18", "CONNECT is 17, not 18"),
 )
 
@@ -28,6 +24,33 @@ class Calls(Case):
         self.assertEqual(calls.MADE.read_text(), calls.made(), "make tools/xous/numbers.py by tools/make-lists")
         self.assertEqual(numbers.CALLS[16], ("SendMessage", (("cid", 1), ("kind", 1), ("id", 1), ("words", 4))))
         self.assertEqual((numbers.ERRORS[25], numbers.REPLIES["new_server"], numbers.KINDS["BlockingScalar"]), ("DoubleFree", 19, 5))
+
+    def test_headers_of_the_kit(self):
+        """They have each call, with its words in order, and each number; the short names are those of all headers."""
+        header, short = kit.CALLS_H.read_text(), kit.SHORT_H.read_text()
+        self.assertEqual((header, short), (kit.calls_header(), kit.short_header()), "make both by tools/make-lists")
+        for number, (name, _) in numbers.CALLS.items():
+            constant = calls.capitals(name)
+            self.assertIn(f" XOUS_{constant} = {number},\n", header)
+            self.assertRegex(header, rf"(?m)^XOUS_INLINE .* xous_{constant.lower()}\(")
+            self.assertIn(f"#define {constant.lower()}(...) xous_{constant.lower()}(__VA_ARGS__)\n", short)
+        self.assertIn("xous_call(XOUS_FORWARD_MESSAGE, token, connection, 0, 0, 0, 0, 0);", header)
+        self.assertIn("xous_call(XOUS_SEND_MESSAGE, connection, kind, id, w0, w1, w2, w3);", header)
+        for line in (" XOUS_DOUBLE_FREE = 25,", " XOUS_NEW_SERVER = 19,", " XOUS_MUTABLE_LEND = 1,"):
+            self.assertIn(line, header)
+        for line in ("ask(...) xous_ask(__VA_ARGS__)", "log xous_log", "digits xous_digits", "VALID XOUS_VALID", "TIMER XOUS_TIMER"):
+            self.assertIn(f"#define {line}\n", short)
+
+    def test_a_new_call(self):
+        """It is in both headers, and in the table of words."""
+        known = {**calls.calls(), 45: ("MakeTea", (("sid", 4), ("cups", 1)))}
+        with mock.patch.object(calls, "calls", lambda: known), mock.patch.object(calls, "comments", lambda: {"MakeTea": "Makes tea."}):
+            header = kit.calls_header()
+            self.assertIn("/* Makes tea. */\nXOUS_INLINE struct xous_reply xous_make_tea(struct xous_identifier server, xous_word cups)\n", header)
+            words = "server.word[0], server.word[1], server.word[2], server.word[3], cups, 0, 0"
+            self.assertIn(f"xous_call(XOUS_MAKE_TEA, {words});", " ".join(header.split()))
+            self.assertIn("#define make_tea(...) xous_make_tea(__VA_ARGS__)\n", kit.short_header())
+            self.assertIn("| `2d` | MakeTea: identifier, cups |", calls.word_rows()[-1])
 
     def test_a_call_that_names_has_no_words_for(self):
         self.assertEqual(list(names.labelled((("token", 1), ("new", 1), ("many", 4)))), [("message", "number"), ("new", "word"), ("many", "arguments")])
