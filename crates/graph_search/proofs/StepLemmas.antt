@@ -1,7 +1,6 @@
 -- One more node's edges are followed.
-use Rattle.std.proofs.Common.{◌≡◌, ◌≤◌, ◌<◌, ◌+◌, ℕ, zero, suc, true, List, [], ◌∷◌, ◌++◌, length, Option, Some, None, refl, sym, ap, subst, ◌∙◌, arith, ◌⊎◌, inl, inr, length-append}
+use Rattle.std.proofs.Common.{◌≡◌, ◌≤◌, ◌<◌, ◌+◌, ℕ, zero, suc, true, List, [], ◌∷◌, ◌++◌, length, Option, Some, None, sym, ap, subst, ◌∙◌, arith, ◌⊎◌, inl, inr, length-append}
 use Rattle.std.specs.Prelude.{slice_get}
-use Rattle.std.specs.Option.{option_and_then}
 use Rattle.std.proofs.lemmas.Option.{slice_get_within}
 use Rattle.std.specs.declared.cmp.Ordering.{Ordering}
 use Rattle.std.specs.BTreeSet.{BTreeSet, contains}
@@ -9,13 +8,11 @@ use Rattle.graph_search.specs.declared.found.Edge.{Edge}
 use Rattle.graph_search.specs.declared.meeting.Search.{Search}
 use Rattle.graph_search.specs.declared.space.Successor.{Successor}
 use Rattle.graph_search.specs.Edges.{AreEdges, IsKeyAt, HasLabel}
-use Rattle.graph_search.specs.Graph.{node_by}
-use Rattle.graph_search.specs.Paths.{IsInOrder, IsTree, labels_to}
+use Rattle.graph_search.specs.Paths.{IsInOrder, IsTree}
 use Rattle.graph_search.specs.Searching.{Adds, AreToldOnce, IsAdded, IsKeyFound, IsMetBy, IsOneOf, Meets, MeetsInTurn, Searched, SearchedAt}
 use Rattle.graph_search.specs.Told.{IsFound, KeysAgree, Tells}
 use Rattle.graph_search.proofs.OnceLemmas.{found_back, found_edge, found_front, found_same, met_once}
 use Rattle.graph_search.proofs.ListLemmas.{IsBehind, front_or_behind, slice_get-front, slice_get-behind, element_at}
-use Rattle.graph_search.proofs.PathLemmas.{labels_to-edge, labels_to-front}
 
 module _ {Node Label Key Note : Type 0} (after : Node → Label → Option Node) (IsKey : Node → Key → Type 0)
     (IsNote : Node → Note → Type 0) (cmp : Key → Key → Ordering) (start : Node) where

@@ -4,11 +4,11 @@ use Rattle.std.specs.Prelude.{◌==◌, ◌&&◌, if◌then◌else◌, map}
 use Rattle.std.proofs.lemmas.List.{append-nil, map-append}
 use Rattle.std.specs.List.{find}
 use Rattle.std.specs.Option.{option_map, option_map_or}
-use Rattle.machine_model.specs.State.Machine.{Machine, Thread, ThreadState, Idle, Joining, Ready, Receiving, Waiting}
+use Rattle.machine_model.specs.State.Machine.{Thread, Idle, Joining, Ready, Receiving, Waiting}
 use Rattle.machine_model.specs.State.Order.{is_ready, ready_at}
 use Rattle.snapshot_rows.specs.declared.state.State.{State}
 use Rattle.snapshot_rows.specs.declared.state.ThreadRow.{ThreadRow}
-use Rattle.snapshot_rows.specs.Machines.{machine_of, thread_of, thread_state}
+use Rattle.snapshot_rows.specs.Machines.{machine_of, thread_of}
 use Rattle.order_model.specs.Turns.{is_ready_in}
 use Rattle.xk_base.specs.Tables.Circle.{id_at, listed_ids, thread_ids}
 use Rattle.xk_base.specs.Tables.Counting.{listed_below}

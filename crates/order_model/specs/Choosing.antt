@@ -1,7 +1,6 @@
 -- What may come next at a point: a slice of a thread, or an event that hasn't come.
-use Rattle.std.specs.Prelude.{◌≡◌, ◌++◌, ℕ, Bool, true, List, [], length, map, is_some, if◌then◌else◌}
+use Rattle.std.specs.Prelude.{◌≡◌, ◌++◌, ℕ, Bool, true, List, length, map, is_some}
 use Rattle.std.specs.Option.{option_and_then}
-use Rattle.machine_model.specs.State.Machine.{Machine}
 use Rattle.order_model.specs.declared.moves.Move.{Move}
 use Rattle.order_model.specs.declared.moves.Move.TheVariants.{Once, Slice}
 use Rattle.order_model.specs.declared.moves.Note.{Note}
@@ -15,7 +14,6 @@ use Rattle.order_model.specs.declared.orders.Trail.{Trail}
 use Rattle.order_model.specs.Asking.{came_of}
 use Rattle.snapshot_rows.specs.declared.state.State.{State}
 use Rattle.snapshot_rows.specs.Machines.{machine_of}
-use Rattle.xk_base.specs.declared.ids.ThreadId.{ThreadId}
 use Rattle.xk_base.specs.Tables.Counting.{listed_below}
 
 -- whose slice it is, or which event comes

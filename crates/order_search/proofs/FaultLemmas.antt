@@ -1,15 +1,14 @@
 -- Why orders aren't searched on, by what the parts of a search say.
-use Rattle.std.proofs.Common.{◌≡◌, ◌<◌, ◌≤◌, ◌+◌, inl, inr, ℕ, Bool, true, false, List, [], Option, None, Some, Result, Ok, Err, IfErr, IsErrAnd, is_some, refl, sym, ap, subst, ◌∙◌, arith}
+use Rattle.std.proofs.Common.{◌≡◌, ◌<◌, inl, inr, ℕ, Bool, true, false, List, Option, None, Some, Result, Ok, Err, IfErr, IsErrAnd, is_some, refl, sym, subst, ◌∙◌, arith}
 use Rattle.std.specs.Prelude.{if◌then◌else◌}
 use Rattle.std.proofs.lemmas.Bool.{false≢true}
 use Rattle.event_player.specs.declared.ending.Ending.{Ending}
 use Rattle.graph_search.specs.declared.space.Unanswered.{Unanswered}
 use Rattle.graph_search.specs.declared.space.Unanswered.TheVariants.{Fault, Memory}
 use Rattle.graph_search.specs.Edges.{HasCause}
-use Rattle.machine_model.specs.State.Machine.{Machine}
 use Rattle.order_model.specs.declared.moves.Move.{Move}
 use Rattle.order_model.specs.Asking.{asked_of, bound_of}
-use Rattle.order_model.specs.Moves.{Asked, Point, leads_by, most_steps}
+use Rattle.order_model.specs.Moves.{Asked, Point}
 use Rattle.order_model.specs.Nodes.{goes_on}
 use Rattle.order_player.specs.declared.moves.MoveFault.{MoveFault}
 use Rattle.order_player.specs.declared.moves.MoveFault.TheVariants as moves
@@ -18,7 +17,7 @@ use Rattle.order_search.specs.Before.{Unplayed}
 use Rattle.order_search.specs.declared.quest.OrderFault.{OrderFault}
 use Rattle.order_search.specs.declared.quest.OrderFault.TheVariants.{Line, Steps, Timer}
 use Rattle.order_search.specs.declared.subject.Subject.{Subject}
-use Rattle.order_search.specs.Faults.{ComesToTimer, IsFault, IsMemory, IsRunFault, IsUnchosen, IsUnplayed}
+use Rattle.order_search.specs.Faults.{IsFault, IsMemory, IsRunFault, IsUnchosen, IsUnplayed}
 use Rattle.order_search.specs.Quests.{Arrives, history_before, searching_of, start_of}
 use Rattle.xk_base.specs.declared.limits.TheConstants.{STEP_LIMIT, TIMER_INTERRUPT}
 

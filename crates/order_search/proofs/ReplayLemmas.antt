@@ -1,9 +1,8 @@
 -- An order that is written as lines behind the events before is played again.
-use Rattle.std.proofs.Common.{◌≡◌, ◌≤◌, ◌+◌, ◌∙◌, ℕ, Bool, true, false, List, ◌++◌, length, length-append, Option, None, Some, refl, sym, ap, subst, arith}
+use Rattle.std.proofs.Common.{◌≡◌, ◌≤◌, ◌∙◌, ℕ, Bool, true, false, List, ◌++◌, length, length-append, Option, None, Some, refl, sym, ap, subst, arith}
 use Rattle.std.specs.Prelude.{if◌then◌else◌}
 use Rattle.std.proofs.lemmas.Grind.{flat_map-append}
-use Rattle.event_player.specs.History.{History, end_of, history_of, run_of}
-use Rattle.event_player.specs.declared.ending.Ending.{Ending}
+use Rattle.event_player.specs.History.{end_of, history_of, run_of}
 use Rattle.event_player.specs.declared.ending.Ending.TheVariants.{BadLine, LimitMet, Played}
 use Rattle.event_text.proofs.JoinedLemmas.{files_joined}
 use Rattle.event_text.specs.EventFile.{Input, input_of}
@@ -22,7 +21,7 @@ use Rattle.order_model.specs.Moves.{Point, byte_of_what, bytes_of, events_of, le
 use Rattle.order_model.specs.Orders.{IsPlayed}
 use Rattle.order_search.specs.declared.subject.Subject.{Subject}
 use Rattle.order_search.specs.Faults.{IsBegun}
-use Rattle.order_search.specs.Quests.{history_before, start_of}
+use Rattle.order_search.specs.Quests.{start_of}
 use Rattle.order_search.specs.Replays.{EndsAt, IsReadable, replay_file}
 use Rattle.xk_base.specs.declared.events.Event.{Event}
 use Rattle.xk_base.specs.declared.limits.TheConstants.{EVENT_FILE_LIMIT, STEP_LIMIT}

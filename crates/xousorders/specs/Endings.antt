@@ -3,7 +3,6 @@ use Rattle.std.specs.Prelude.{◌≡◌, ◌<◌, ◌≤◌, ◌==◌, ◌&&◌,
 use Rattle.std.specs.Option.{option_map_or}
 use Rattle.std.specs.Str.{bytes_eq}
 use Rattle.order_model.specs.declared.moves.Move.{Move}
-use Rattle.order_model.specs.declared.moves.Note.{Note}
 use Rattle.order_model.specs.Endings.{is_ending, seen_of}
 use Rattle.order_model.specs.Moves.{Point, leads_by}
 use Rattle.order_model.specs.Nodes.{after, node_of}

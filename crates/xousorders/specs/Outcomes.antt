@@ -1,5 +1,5 @@
 -- How the program ends where it tells nothing, and how it ends by what it told; its numbers, and its texts on the notes.
-use Rattle.std.specs.Prelude.{◌≡◌, ℕ, Bool, true, false, ◌&&◌, nat_lt, List, [], ◌++◌, codes}
+use Rattle.std.specs.Prelude.{ℕ, Bool, true, false, ◌&&◌, nat_lt, List, [], ◌++◌, codes}
 use Rattle.program_status.specs.Notes.{note_with}
 use Rattle.program_status.specs.Status.{number_of as number_of_status}
 use Rattle.program_status.specs.declared.status.Status.{Status}

@@ -1,5 +1,5 @@
 -- Which orders were searched, and why they aren't searched on.
-use Rattle.std.specs.Prelude.{◌≡◌, ◌⊎◌, ◌+◌, ℕ, List, map, min, Some, sum}
+use Rattle.std.specs.Prelude.{◌≡◌, ◌⊎◌, ℕ, List, map, min, Some, sum}
 use Rattle.order_model.specs.declared.moves.Note.{Note}
 use Rattle.order_search.specs.declared.quest.OrderFault.TheVariants.{Line, Steps}
 use Rattle.order_search.specs.declared.subject.Subject.{Subject}

@@ -1,4 +1,4 @@
-use Rattle.std.proofs.Common.{◌≡◌, ◌∙◌, Bool, List, ap, length}
+use Rattle.std.proofs.Common.{◌∙◌, ap, length}
 use Rattle.order_model.proofs.ChoiceLemmas.{ending_is, none_counted}
 use Rattle.order_model.specs.Endings.{are_none}
 use Rattle.order_model.proofs.choices.note_of.Goals as goal

@@ -1,4 +1,4 @@
-use Rattle.std.proofs.Common.{◌≡◌, ◌+◌, ◌∙◌, length, arith, refl, subst}
+use Rattle.std.proofs.Common.{◌≡◌, length, arith, refl, subst}
 use Rattle.std.proofs.lemmas.Option.{slice_get_read}
 use Rattle.xk_base.specs.Outside.{Rose}
 use Rattle.xk_ports.specs.Told.{Grows}

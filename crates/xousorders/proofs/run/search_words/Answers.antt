@@ -1,4 +1,3 @@
-use Rattle.std.proofs.Common.{refl}
 use Rattle.xk_base.specs.Outside.{Rose}
 use Rattle.xousorders.specs.Asked.{HostFiles, Stops}
 use Rattle.xousorders.specs.Calls.{Command, command_in}

@@ -1,7 +1,6 @@
-use Rattle.std.proofs.Common.{◌≡◌, Bool, List, ℕ, OnOk, Option, subst, sym, true}
+use Rattle.std.proofs.Common.{Bool, List, ℕ, OnOk, Option, subst, sym}
 use Rattle.order_model.specs.Asking.{asked_of}
 use Rattle.order_model.specs.Moves.{Asked}
-use Rattle.xk_ports.proofs.ToldLemmas.{Grows-none}
 use Rattle.xk_ports.specs.Told.{Grows}
 use Rattle.xousorders.specs.Calls.{Report, files_in, report_of}
 use Rattle.xousorders.specs.Files.{EventFile, order_files}
