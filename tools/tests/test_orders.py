@@ -1,6 +1,7 @@
 """Every order of an image's threads, searched slowly, and compared with examples/orders/found, as the program xousorders is."""
 
 import pathlib
+import re
 import subprocess
 import tempfile
 
@@ -52,12 +53,14 @@ OTHER_FORMS = {
     "several of one": ("1 slice\n", "1 slices\n"),
     "no order": ("; 12 slices", ""),
     "a console that is left out": ("console empty; ", ""),
+    "a bound without its steps": ("whole", "whole within"),
 }
 # What isn't the same, and in how many things it differs.
 OTHER_SEARCHES = {
     "a state less": (("states 26", "states 25"), 1),
     "a slice more": (("slices 38", "slices 39"), 1),
     "a search that was cut": (("whole", "cut"), 1),
+    "a bound of steps": (("whole", "whole within 9 steps"), 1),
     "another ending": (("4f6b0a", "4f6b"), 2),
     "a node more of an ending": (("1 node;", "2 nodes;"), 1),
     "an order that isn't the shortest": (("12 slices", "13 slices"), 1),
@@ -157,6 +160,61 @@ def checks_of_searcher(program, searcher):
             yield from checks_of_orders(program, image, told, folder, f"xousorders {words}")
 
 
+# The words of a call, how it ends, and what it writes.
+
+LOST = "{examples}/orders/lost.image"
+TIMER = "{examples}/timer/image"
+CALLS = (
+    # the words, the status, the first line of the output, and the text on standard error
+    ("", 2, "", "usage: "),
+    ("--help", 2, "", "usage: "),
+    ("--quantun", 2, "", "usage: "),
+    (f"{LOST} --quantun", 2, "", "usage: "),
+    (f"{LOST} --quantum 0", 2, "", "usage: "),
+    (f"{LOST} --states", 2, "", "usage: "),
+    (f"{LOST} {LOST}", 2, "", "usage: "),
+    (f"{LOST} --write=", 2, "", "usage: "),
+    ("none.image", 3, "", "read fault"),
+    (f"{LOST} --from none.events", 3, "", "read fault"),
+    ("bad.events", 5, "", "image fault"),
+    (f"{LOST} --from bad.events", 6, "", "event fault at line 2"),
+    (f"{LOST} --quantum 4000000000", 7, "", "step limit 4000000000"),
+    (f"{LOST} --write none", 4, "", "write fault"),
+    (LOST, 0, r"states 11 slices 11 whole", ""),
+    (f"{LOST} --one", 0, r"states 11 slices 11 whole", ""),
+    (f"{LOST} --quantum 1 --one", 1, r"states 486 slices 770 whole", ""),
+    (f"{LOST} --from empty.events", 0, r"states 11 slices 11 whole", ""),
+    (f"{LOST} --from good.events", 0, r"states \d+ slices \d+ whole", ""),
+    (f"{LOST} --states 1", 0, r"states 1 slices 0 cut", ""),
+    (f"{LOST} --states 2", 0, r"states 2 slices \d+ cut", ""),
+    (f"{LOST} --states 5", 0, r"states 5 slices \d+ cut", ""),
+    (f"{LOST} --states 11", 0, r"states 11 slices 11 whole", ""),
+    (f"{LOST} --steps 5", 0, r"states 11 slices 11 whole", ""),
+    (f"{TIMER} --steps 50", 0, r"states \d+ slices \d+ (whole|cut) within 50 steps", ""),
+    (f"{TIMER} --states 50", 0, r"states \d+ slices \d+ (whole|cut) within 100000 steps", ""),
+    (f"{LOST} --kill 2", 0, r"states \d+ slices \d+ whole", ""),
+    (f"{LOST} --irq 3", 0, r"states \d+ slices \d+ whole", ""),
+)
+FILES = {"bad.events": b"tick 1\nnothing\n", "empty.events": b"", "good.events": b"tick 2"}
+
+
+def checks_of_calls(searcher):
+    """Each call ends with its status, and writes its first line and its text on standard error."""
+    with tempfile.TemporaryDirectory() as folder:
+        for name, written in FILES.items():
+            pathlib.Path(folder, name).write_bytes(written)
+        for words, status, line, text in CALLS:
+            command = [word.format(examples=EXAMPLES) for word in words.replace("--write=", "--write EMPTY").split()]
+            command = ["" if word == "EMPTY" else word for word in command]
+            ran = subprocess.run([searcher, *command], capture_output=True, text=True, check=False, cwd=folder)
+            first = ran.stdout.splitlines()[0] if ran.stdout else ""
+            told = f"xousorders {words}: status {ran.returncode}: {first!r}, {ran.stderr!r}"
+            yield ran.returncode == status and re.fullmatch(line, first) and ran.stderr.startswith(text), told
+        with open("/dev/full", "wb") as full:
+            ran = subprocess.run([searcher, LOST.format(examples=EXAMPLES)], stdout=full, stderr=subprocess.PIPE, text=True, check=False)
+        yield ran.returncode == 4 and ran.stderr.startswith("write fault"), f"xousorders into a full disk: status {ran.returncode}"
+
+
 class Orders(Case):
     def test_reading(self):
         self.hold(checks_of_reading())
@@ -166,3 +224,6 @@ class Orders(Case):
 
     def test_program(self):
         self.hold(checks_of_searcher(need_program(), need_searcher()))
+
+    def test_calls(self):
+        self.hold(checks_of_calls(str(pathlib.Path(need_searcher()).resolve())))

@@ -1,5 +1,6 @@
 pub mod ListLemmas
 pub mod MeetLemmas
+pub mod OnceLemmas
 pub mod PathLemmas
 pub mod StepLemmas
 pub mod WholeLemmas

@@ -1,13 +1,13 @@
 -- The labels on the way to a node.
-use Rattle.std.proofs.Common.{◌≡◌, ◌≤◌, ◌<◌, ℕ, zero, suc, List, [], ◌∷◌, ◌++◌, length, Option, Some, None, refl, sym, ap, ◌∙◌, arith}
+use Rattle.std.proofs.Common.{◌≡◌, ◌≤◌, ◌<◌, ◌+◌, ℕ, zero, suc, List, [], ◌∷◌, ◌++◌, length, Option, Some, None, refl, sym, ap, ◌∙◌, arith}
 use Rattle.std.specs.Prelude.{slice_get}
 use Rattle.std.specs.Option.{option_map_or}
 use Rattle.std.specs.Prelude.{reverse}
 use Rattle.std.proofs.Common.{append_assoc}
-use Rattle.std.proofs.lemmas.List.{reverse-append}
-use Rattle.graph_search.proofs.ListLemmas.{slice_get-front}
+use Rattle.std.proofs.lemmas.List.{length-append, reverse-append}
+use Rattle.graph_search.proofs.ListLemmas.{element_at, slice_get-front}
 use Rattle.graph_search.specs.declared.found.Edge.{Edge}
-use Rattle.graph_search.specs.Paths.{IsTree, last_labels, labels_to}
+use Rattle.graph_search.specs.Paths.{IsInOrder, IsTree, last_labels, labels_to}
 
 module _ {Label : Type 0} where
   -- the label of the edge after the labels to where it comes from
@@ -60,6 +60,28 @@ module _ {Label : Type 0} where
   pub labels_to-start : (edges : List (Edge Label)) → labels_to edges zero ≡ []
   unfolding labels_to
   labels_to-start edges = refl
+
+  -- the paths of later nodes are no shorter
+  module _ (edges : List (Edge Label)) (tree : IsTree edges) (in_order : IsInOrder edges) where
+    by_depth : (most i j : ℕ) → j ≤ most → i ≤ j → j ≤ length edges → length (labels_to edges i) ≤ length (labels_to edges j)
+    by_depth most zero j few less within = rw labels_to-start (omega arith)
+    by_depth most (suc k) zero few less within = absurd (omega arith)
+    by_depth zero (suc k) (suc l) few less within = absurd (omega arith)
+    by_depth (suc most) (suc k) (suc l) few less within =
+        let a : (e : Edge Label) × (slice_get edges k ≡ Some e) = element_at edges k (omega arith) in
+        let b : (f : Edge Label) × (slice_get edges l ≡ Some f) = element_at edges l (omega arith) in
+        let order : a.0.from ≤ b.0.from = in_order k l a.0 b.0 (omega arith) a.1 b.1 in
+        let back : b.0.from ≤ l = tree l b.0 b.1 in
+        let shorter : length (labels_to edges a.0.from) ≤ length (labels_to edges b.0.from) =
+        by_depth most a.0.from b.0.from (omega (arith, back, few)) order (omega (arith, back, within)) in
+        let x : length (labels_to edges (suc k)) ≡ length (labels_to edges a.0.from) + 1 =
+        ap length (labels_to-edge edges k a.0 tree a.1) ∙ length-append (labels_to edges a.0.from) (a.0.label ∷ []) in
+        let y : length (labels_to edges (suc l)) ≡ length (labels_to edges b.0.from) + 1 =
+        ap length (labels_to-edge edges l b.0 tree b.1) ∙ length-append (labels_to edges b.0.from) (b.0.label ∷ []) in
+        omega (arith, shorter, x, y)
+
+    pub later_no_shorter : (i j : ℕ) → i ≤ j → j ≤ length edges → length (labels_to edges i) ≤ length (labels_to edges j)
+    later_no_shorter i j less within = by_depth j i j (omega arith) less within
 
   -- one edge backwards
   pub one_back : (edges : List (Edge Label)) (k at : ℕ) (e : Edge Label) (passed more : List Label) → IsTree edges → at ≡ suc k

@@ -1,7 +1,6 @@
 -- One more node's edges are followed.
-use Rattle.std.proofs.Common.{◌≡◌, ◌≤◌, ◌<◌, ◌+◌, ℕ, zero, suc, true, List, [], ◌∷◌, ◌++◌, length, Option, Some, None, refl, sym, ap, subst, ◌∙◌, arith, ◌⊎◌, inl, inr, length-append}
+use Rattle.std.proofs.Common.{◌≡◌, ◌≤◌, ◌<◌, ◌+◌, ℕ, zero, suc, true, List, [], ◌∷◌, ◌++◌, length, Option, Some, None, sym, ap, subst, ◌∙◌, arith, ◌⊎◌, inl, inr, length-append}
 use Rattle.std.specs.Prelude.{slice_get}
-use Rattle.std.specs.Option.{option_and_then}
 use Rattle.std.proofs.lemmas.Option.{slice_get_within}
 use Rattle.std.specs.declared.cmp.Ordering.{Ordering}
 use Rattle.std.specs.BTreeSet.{BTreeSet, contains}
@@ -9,63 +8,11 @@ use Rattle.graph_search.specs.declared.found.Edge.{Edge}
 use Rattle.graph_search.specs.declared.meeting.Search.{Search}
 use Rattle.graph_search.specs.declared.space.Successor.{Successor}
 use Rattle.graph_search.specs.Edges.{AreEdges, IsKeyAt, HasLabel}
-use Rattle.graph_search.specs.Graph.{node_by}
-use Rattle.graph_search.specs.Paths.{IsTree, labels_to}
-use Rattle.graph_search.specs.Searching.{IsOneOf, Adds, IsAdded, Meets, IsKeyFound, IsMetBy, SearchedAt, Searched}
-use Rattle.graph_search.specs.Told.{IsFound, Tells}
+use Rattle.graph_search.specs.Paths.{IsInOrder, IsTree}
+use Rattle.graph_search.specs.Searching.{Adds, AreToldOnce, IsAdded, IsKeyFound, IsMetBy, IsOneOf, Meets, MeetsInTurn, Searched, SearchedAt}
+use Rattle.graph_search.specs.Told.{IsFound, KeysAgree, Tells}
+use Rattle.graph_search.proofs.OnceLemmas.{found_back, found_edge, found_front, found_same, met_once}
 use Rattle.graph_search.proofs.ListLemmas.{IsBehind, front_or_behind, slice_get-front, slice_get-behind, element_at}
-use Rattle.graph_search.proofs.PathLemmas.{labels_to-edge, labels_to-front}
-
-module _ {Node Label : Type 0} (after : Node → Label → Option Node) where
-  -- a path and then another
-  pub node_by-append : (m : Node) (p q : List Label) → node_by after m (p ++ q) ≡ option_and_then (λ n. node_by after n q) (node_by after m p)
-  node_by-append m [] q = refl
-  node_by-append m (label ∷ p) q = go (after m label) (λ n. node_by-append n p q)
-    where
-      go : (o : Option Node) → ((n : Node) → node_by after n (p ++ q) ≡ option_and_then (λ x. node_by after x q) (node_by after n p))
-          → option_and_then (λ n. node_by after n (p ++ q)) o ≡ option_and_then (λ x. node_by after x q) (option_and_then (λ n. node_by after n p) o)
-      go None later = refl
-      go (Some n) later = later n
-
-  pub one_label : (m next : Node) (label : Label) → after m label ≡ Some next → node_by after m (label ∷ []) ≡ Some next
-  one_label m next label is = ap (option_and_then (λ (n : Node). node_by after n [])) is
-
-  module _ (start : Node) where
-    -- a node by a path and one more label
-    pub one_further : (p : List Label) (m next : Node) (label : Label) → node_by after start p ≡ Some m → after m label ≡ Some next
-        → node_by after start (p ++ label ∷ []) ≡ Some next
-    one_further p m next label to is =
-        node_by-append start p (label ∷ [])
-        ∙ (ap (option_and_then (λ (n : Node). node_by after n (label ∷ []))) to ∙ one_label m next label is)
-
-    pub found_same : (edges : List (Edge Label)) (i : ℕ) (m n : Node) → IsFound after start edges i m → IsFound after start edges i n → m ≡ n
-    found_same edges i m n f g =
-        let a : node_by after start (labels_to edges i) ≡ Some m = f.by_path in
-        let b : node_by after start (labels_to edges i) ≡ Some n = g.by_path in
-        cc
-
-    -- further edges change nothing
-    pub found_front : (edges more : List (Edge Label)) (i : ℕ) (node : Node) → IsTree edges → IsFound after start edges i node
-        → IsFound after start (edges ++ more) i node
-    found_front edges more i node tree f = record {
-      told = (let h = f.told in omega (arith, length-append edges more));
-      by_path = ap (node_by after start) (labels_to-front edges more i tree f.told) ∙ f.by_path;
-    }
-
-    pub found_back : (edges more : List (Edge Label)) (i : ℕ) (node : Node) → IsTree edges → i ≤ length edges
-        → IsFound after start (edges ++ more) i node → IsFound after start edges i node
-    found_back edges more i node tree within f = record {
-      told = within;
-      by_path = ap (node_by after start) (sym (labels_to-front edges more i tree within)) ∙ f.by_path;
-    }
-
-    -- the node to which an edge leads
-    pub found_edge : (edges : List (Edge Label)) (k : ℕ) (e : Edge Label) (m next : Node) → IsTree edges → slice_get edges k ≡ Some e
-        → IsFound after start edges e.from m → after m e.label ≡ Some next → IsFound after start edges (suc k) next
-    found_edge edges k e m next tree there from is = record {
-      told = (let h = slice_get_within edges k e there in omega arith);
-      by_path = ap (node_by after start) (labels_to-edge edges k e tree there) ∙ one_further (labels_to edges e.from) m next e.label from.by_path is;
-    }
 
 module _ {Node Label Key Note : Type 0} (after : Node → Label → Option Node) (IsKey : Node → Key → Type 0)
     (IsNote : Node → Note → Type 0) (cmp : Key → Key → Ordering) (start : Node) where
@@ -101,6 +48,7 @@ module _ {Node Label Key Note : Type 0} (after : Node → Label → Option Node)
 
   module _ (edges more : List (Edge Label)) (notes : List Note) (m : Node) (told : List (Successor Label Key))
       (tells : Tells after IsNote start edges notes) (left : length notes ≤ length edges)
+      (before : (k : ℕ) (e : Edge Label) → slice_get edges k ≡ Some e → e.from < length notes)
       (here : IsFound after start edges (length notes) m) (all : AreEdges after IsKey m told)
       (each : (k : ℕ) (e : Edge Label) → slice_get more k ≡ Some e → IsOneOf (length notes) told (length told) e) where
     new_tree : IsTree (edges ++ more)
@@ -109,6 +57,15 @@ module _ {Node Label Key Note : Type 0} (after : Node → Label → Option Node)
         go : (slice_get edges k ≡ Some e) ⊎ IsBehind edges more k e → e.from ≤ k
         go (inl h) = tells.tree k e h
         go (inr b) = let o = each b.place e b.is in let f = o.from_is in let s = b.sum in omega (arith, left)
+
+    new_order : IsInOrder (edges ++ more)
+    new_order k l e f less is is' = go (front_or_behind edges more k e is) (front_or_behind edges more l f is')
+      where
+        go : (slice_get edges k ≡ Some e) ⊎ IsBehind edges more k e → (slice_get edges l ≡ Some f) ⊎ IsBehind edges more l f → e.from ≤ f.from
+        go (inl h) (inl h') = tells.in_order k l e f less h h'
+        go (inl h) (inr b) = let o = each b.place f b.is in let x = o.from_is in let y = before k e h in omega arith
+        go (inr b) (inl h') = absurd (let w = slice_get_within edges l f h' in let s = b.sum in let no : ⊥ = omega (arith, w, s, less) in no)
+        go (inr b) (inr b') = let o = each b.place e b.is in let o' = each b'.place f b'.is in let x = o.from_is in let y = o'.from_is in omega arith
 
     -- a new edge leads on from the node, to one that has the key of a successor
     record IsNew (k : ℕ) (e : Edge Label) (s : Successor Label Key) : Type 0 where
@@ -151,6 +108,7 @@ module _ {Node Label Key Note : Type 0} (after : Node → Label → Option Node)
     pub tells_more : Tells after IsNote start (edges ++ more) notes
     tells_more = record {
       tree = new_tree;
+      in_order = new_order;
       led_to = new_led_to;
       few = (let f = tells.few in omega (arith, length-append edges more));
       noted = λ i node note f is. tells.noted i node note (back i node note is f) is;
@@ -170,6 +128,7 @@ module _ {Node Label Key Note : Type 0} (after : Node → Label → Option Node)
     pub tells_next : (note : Note) → IsNote m note → Tells after IsNote start (edges ++ more) (notes ++ note ∷ [])
     tells_next note right = record {
       tree = new_tree;
+      in_order = new_order;
       led_to = new_led_to;
       few = omega (arith, left, length-append edges more, length-append notes (note ∷ []));
       noted = λ i node other f is. noted i node other f (front_or_behind notes (note ∷ []) i other is);
@@ -239,44 +198,38 @@ module _ {Node Label Key Note : Type 0} (after : Node → Label → Option Node)
                 of_next = subst (λ (n : Node). IsKey n has.edge.key) next_is keyed.is_key;
               }
 
-      now_in_order : (k l : ℕ) (e f : Edge Label) → k ≤ l → slice_get (edges ++ more) k ≡ Some e → slice_get (edges ++ more) l ≡ Some f
-          → e.from ≤ f.from
-      now_in_order k l e f less is is' = go (front_or_behind edges more k e is) (front_or_behind edges more l f is')
-        where
-          go : (slice_get edges k ≡ Some e) ⊎ IsBehind edges more k e → (slice_get edges l ≡ Some f) ⊎ IsBehind edges more l f → e.from ≤ f.from
-          go (inl h) (inl h') = searched.in_order k l e f less h h'
-          go (inl h) (inr b) = let o = each b.place f b.is in let x = o.from_is in let y = searched.before k e h in omega arith
-          go (inr b) (inl h') = absurd (let w = slice_get_within edges l f h' in let s = b.sum in let no : ⊥ = omega (arith, w, s, less) in no)
-          go (inr b) (inr b') = let o = each b.place e b.is in let o' = each b'.place f b'.is in let x = o.from_is in let y = o'.from_is in omega arith
-
-      pub searched_on : SearchedAt after IsKey IsNote cmp start (edges ++ more) (notes ++ note ∷ []) seen
-      searched_on = record {
+      pub searched_on : (KeysAgree IsKey cmp → AreToldOnce after IsKey cmp start (edges ++ more) seen) → SearchedAt after IsKey IsNote cmp start (edges ++ more) (notes ++ note ∷ []) seen
+      searched_on once = record {
         tells = tells_next note right;
         seen = now_seen;
         followed = λ i node label next within. now_followed i node label next (omega (arith, within, length-append notes (note ∷ [])));
-        in_order = now_in_order;
         before = λ k e is. (let b = now_before k e is in omega (arith, b, length-append notes (note ∷ [])));
+        once = once;
       }
 
   -- the same with what a search has in other terms
 
   pub tells_more_by : (edges edges' : List (Edge Label)) (notes notes' : List Note) (m : Node) (told : List (Successor Label Key)) (from : ℕ)
-      → Tells after IsNote start edges notes → length notes ≤ length edges → from ≡ length notes → IsFound after start edges from m
+      → Tells after IsNote start edges notes → length notes ≤ length edges
+      → ((k : ℕ) (e : Edge Label) → slice_get edges k ≡ Some e → e.from < length notes) → from ≡ length notes → IsFound after start edges from m
       → AreEdges after IsKey m told → Adds from told (length told) edges edges' → notes' ≡ notes → Tells after IsNote start edges' notes'
-  tells_more_by edges edges' notes notes' m told from tells left from_is here all adds same =
+  tells_more_by edges edges' notes notes' m told from tells left before from_is here all adds same =
       subst (λ (ns : List Note). Tells after IsNote start edges' ns) (sym same)
       (subst (λ (es : List (Edge Label)). Tells after IsNote start es notes) (sym adds.is)
-      (tells_more edges adds.more notes m told tells left (subst (λ (n : ℕ). IsFound after start edges n m) from_is here) all
+      (tells_more edges adds.more notes m told tells left before (subst (λ (n : ℕ). IsFound after start edges n m) from_is here) all
       (λ k e h. subst (λ (n : ℕ). IsOneOf n told (length told) e) from_is (adds.each k e h))))
 
   pub searched_by : (old met : Search Label Key Note) (notes' : List Note) (m : Node) (told : List (Successor Label Key)) (note : Note) (from : ℕ)
       → Searched after IsKey IsNote cmp start old → length old.notes.items ≤ length old.edges.items → from ≡ length old.notes.items
       → IsFound after start old.edges.items from m → AreEdges after IsKey m told → IsNote m note → Meets cmp from told (length told) old met
-      → notes' ≡ old.notes.items ++ note ∷ [] → SearchedAt after IsKey IsNote cmp start met.edges.items notes' met.seen
-  searched_by old met notes' m told note from searched left from_is here all right meets same =
+      → MeetsInTurn cmp from told (length told) old met → notes' ≡ old.notes.items ++ note ∷ [] → SearchedAt after IsKey IsNote cmp start met.edges.items notes' met.seen
+  searched_by old met notes' m told note from searched left from_is here all right meets in_turn same =
       subst (λ (ns : List Note). SearchedAt after IsKey IsNote cmp start met.edges.items ns met.seen) (sym same)
       (subst (λ (es : List (Edge Label)). SearchedAt after IsKey IsNote cmp start es (old.notes.items ++ note ∷ []) met.seen) (sym meets.adds.is)
-      (searched_on old.edges.items meets.adds.more old.notes.items m told searched.tells left
+      (searched_on old.edges.items meets.adds.more old.notes.items m told searched.tells left searched.before
       (subst (λ (n : ℕ). IsFound after start old.edges.items n m) from_is here) all
       (λ k e h. subst (λ (n : ℕ). IsOneOf n told (length told) e) from_is (meets.adds.each k e h))
-      note right old.seen met.seen searched meets.there meets.anew))
+      note right old.seen met.seen searched meets.there meets.anew
+      (λ agree. subst (λ (es : List (Edge Label)). AreToldOnce after IsKey cmp start es met.seen) meets.adds.is
+      (met_once after IsKey cmp start agree from m told all (length told) old met
+      (record { tree = searched.tells.tree; here = here; once = searched.once agree }) in_turn).once)))

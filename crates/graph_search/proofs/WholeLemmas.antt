@@ -7,38 +7,24 @@ use Rattle.std.specs.declared.cmp.Ordering.TheVariants.{Equal}
 use Rattle.std.specs.BTreeSet.{BTreeSet, contains, Updates}
 use Rattle.std.specs.BTreeMap.{is_at}
 use Rattle.std.specs.List.{list_any}
+use Rattle.std.specs.Ordering.{is_eq}
 use Rattle.std.proofs.lemmas.Bool.{false≢true}
 use Rattle.graph_search.specs.declared.found.Edge.{Edge}
 use Rattle.graph_search.specs.Graph.{node_by}
 use Rattle.graph_search.specs.Paths.{labels_to}
 use Rattle.graph_search.specs.Searching.{IsKeyFound, IsMetBy, SearchedAt}
-use Rattle.graph_search.specs.Told.{IsFound, IsTold, Tells, TellsAll, KeysTell}
+use Rattle.graph_search.specs.Told.{IsFound, IsTold, KeysAgree, KeysTell, Tells, TellsAll, TellsOnce}
 use Rattle.graph_search.proofs.ListLemmas.{element_at}
-use Rattle.graph_search.proofs.PathLemmas.{labels_to-edge, labels_to-start}
+use Rattle.graph_search.proofs.PathLemmas.{labels_to-edge, labels_to-start, later_no_shorter}
 use Rattle.graph_search.proofs.MeetLemmas.{is_equal}
-use Rattle.graph_search.proofs.StepLemmas.{one_further}
+use Rattle.graph_search.proofs.OnceLemmas.{found_same, one_further}
 
 module _ {Node Label Key Note : Type 0} (after : Node → Label → Option Node) (IsKey : Node → Key → Type 0)
     (IsNote : Node → Note → Type 0) (cmp : Key → Key → Ordering) (start : Node) where
   module _ (edges : List (Edge Label)) (notes : List Note) (keys : BTreeSet Key)
       (searched : SearchedAt after IsKey IsNote cmp start edges notes keys) where
-    -- the paths of later nodes are no shorter
-    by_depth : (most i j : ℕ) → j ≤ most → i ≤ j → j ≤ length edges → length (labels_to edges i) ≤ length (labels_to edges j)
-    by_depth most zero j few less within = rw labels_to-start (omega arith)
-    by_depth most (suc k) zero few less within = absurd (omega arith)
-    by_depth zero (suc k) (suc l) few less within = absurd (omega arith)
-    by_depth (suc most) (suc k) (suc l) few less within =
-        let a : (e : Edge Label) × (slice_get edges k ≡ Some e) = element_at edges k (omega arith) in
-        let b : (f : Edge Label) × (slice_get edges l ≡ Some f) = element_at edges l (omega arith) in
-        let order : a.0.from ≤ b.0.from = searched.in_order k l a.0 b.0 (omega arith) a.1 b.1 in
-        let back : b.0.from ≤ l = searched.tells.tree l b.0 b.1 in
-        let shorter : length (labels_to edges a.0.from) ≤ length (labels_to edges b.0.from) =
-        by_depth most a.0.from b.0.from (omega (arith, back, few)) order (omega (arith, back, within)) in
-        let x : length (labels_to edges (suc k)) ≡ length (labels_to edges a.0.from) + 1 =
-        ap length (labels_to-edge edges k a.0 searched.tells.tree a.1) ∙ length-append (labels_to edges a.0.from) (a.0.label ∷ []) in
-        let y : length (labels_to edges (suc l)) ≡ length (labels_to edges b.0.from) + 1 =
-        ap length (labels_to-edge edges l b.0 searched.tells.tree b.1) ∙ length-append (labels_to edges b.0.from) (b.0.label ∷ []) in
-        omega (arith, shorter, x, y)
+    by_depth : (i j : ℕ) → i ≤ j → j ≤ length edges → length (labels_to edges i) ≤ length (labels_to edges j)
+    by_depth = later_no_shorter edges searched.tells.tree searched.tells.in_order
 
     -- the path of a node that was met from node i or before is longer than that to i by one at most
     met_depth : (i j : ℕ) → i ≤ length edges → j ≤ length edges
@@ -48,7 +34,7 @@ module _ {Node Label Key Note : Type 0} (after : Node → Label → Option Node)
     met_depth i (suc k) within told by =
         let a : (e : Edge Label) × (slice_get edges k ≡ Some e) = element_at edges k (omega arith) in
         let from : a.0.from ≤ i = by k a.0 refl a.1 in
-        let shorter : length (labels_to edges a.0.from) ≤ length (labels_to edges i) = by_depth i a.0.from i (omega arith) from within in
+        let shorter : length (labels_to edges a.0.from) ≤ length (labels_to edges i) = by_depth a.0.from i from within in
         let x : length (labels_to edges (suc k)) ≡ length (labels_to edges a.0.from) + 1 =
         ap length (labels_to-edge edges k a.0 searched.tells.tree a.1) ∙ length-append (labels_to edges a.0.from) (a.0.label ∷ []) in
         omega (arith, shorter, x)
@@ -107,20 +93,35 @@ module _ {Node Label Key Note : Type 0} (after : Node → Label → Option Node)
   pub tells_start : (edges : List (Edge Label)) (notes : List Note) → edges ≡ [] → notes ≡ [] → Tells after IsNote start edges notes
   tells_start edges notes none none' = record {
     tree = λ k e at. absurd (no_edge_yet edges none k e at);
+    in_order = λ k l e f less at. absurd (no_edge_yet edges none k e at);
     led_to = λ i within. (start, start_alone edges none i within);
     few = (let h : length notes ≡ 0 = ap length none' in omega (arith, h));
     noted = λ i node note f at. absurd (no_note_yet notes none' i note at);
   }
 
+  pub start_once : (edges : List (Edge Label)) → edges ≡ [] → TellsOnce after start edges
+  start_once edges none i j node f g =
+      let no : length edges ≡ 0 = ap length none in
+      let a = f.told in
+      let b = g.told in
+      omega (arith, no, a, b)
+
   pub searched_start : (edges : List (Edge Label)) (notes : List Note) (keys : BTreeSet Key) (key : Key) → edges ≡ [] → notes ≡ []
-      → ((q : Key) → contains cmp keys q ≡ true → cmp key q ≡ Equal) → IsKey start key → SearchedAt after IsKey IsNote cmp start edges notes keys
-  searched_start edges notes keys key none none' only is = record {
+      → ((q : Key) → contains cmp keys q ≡ true → cmp key q ≡ Equal) → ((q : Key) → cmp key q ≡ Equal → contains cmp keys q ≡ true)
+      → IsKey start key → SearchedAt after IsKey IsNote cmp start edges notes keys
+  searched_start edges notes keys key none none' only there is = record {
     tells = tells_start edges notes none none';
     seen = λ q h. record { number = 0; node = start; is = start_alone edges none 0 (omega arith); key = key; of_node = is; equal = only q h };
     followed = λ i node label next within. absurd (let h : length notes ≡ 0 = ap length none' in let no : ⊥ = omega (arith, h, within) in no);
-    in_order = λ k l e f less at. absurd (no_edge_yet edges none k e at);
     before = λ k e at. absurd (no_edge_yet edges none k e at);
+    once = λ agree. record { once = start_once edges none; all_seen = start_seen agree };
   }
+    where
+      start_seen : KeysAgree IsKey cmp → (i : ℕ) (node : Node) (q : Key) → IsFound after start edges i node → IsKey node q
+          → contains cmp keys q ≡ true
+      start_seen agree i node q f of_node =
+          let same : start ≡ node = found_same after start edges i start node (start_alone edges none i f.told) f in
+          there q (agree start key q is (subst (λ (n : Node). IsKey n q) (sym same) of_node))
 
 only_so : (b c : Bool) → c ≡ false → cond b true c ≡ true → b ≡ true
 only_so true c none h = refl
@@ -132,3 +133,8 @@ pub only_key : {Key : Type 0} → (cmp : Key → Key → Ordering) (old new : BT
 only_key cmp old new key none updates q is =
     is_equal (cmp key q)
     (only_so (is_at (cmp key) q) (contains cmp old q) (ap (list_any (is_at (cmp q))) none) (sym (updates.0 q) ∙ is))
+
+-- .. and all that are equal to it are there
+pub key_there : {Key : Type 0} → (cmp : Key → Key → Ordering) (old new : BTreeSet Key) (key : Key) → Updates cmp old new key true
+    → (q : Key) → cmp key q ≡ Equal → contains cmp new q ≡ true
+key_there cmp old new key updates q same = updates.0 q ∙ ap (λ (o : Ordering). cond (is_eq o) true (contains cmp old q)) same

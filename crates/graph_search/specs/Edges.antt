@@ -1,6 +1,8 @@
 -- The edges that leave a node, as a space tells them.
 use Rattle.std.specs.Prelude.{◌≡◌, ℕ, List, slice_get, Option, Some}
 use Rattle.graph_search.specs.declared.space.Successor.{Successor}
+use Rattle.graph_search.specs.declared.space.Unanswered.{Unanswered}
+use Rattle.graph_search.specs.declared.space.Unanswered.TheVariants.{Fault, Memory}
 
 module _ {Node Label Key : Type 0} (after : Node → Label → Option Node) (IsKey : Node → Key → Type 0) where
   -- there is a node, and the key is one of it
@@ -24,3 +26,8 @@ module _ {Node Label Key : Type 0} (after : Node → Label → Option Node) (IsK
   -- .. of that node, where there is one
   abbrev pub AreEdgesFrom : Option Node → List (Successor Label Key) → Type 0
   AreEdgesFrom at found = (node : Node) → at ≡ Some node → AreEdges node found
+
+-- a fault has its cause; want of memory has none that is told
+abbrev pub HasCause : {F : Type 0} → (F → Type 0) → Unanswered F → Type 0
+HasCause IsFault (Memory error) = Unit {0}
+HasCause IsFault (Fault fault) = IsFault fault

@@ -7,6 +7,10 @@ use Rattle.graph_search.specs.declared.found.Edge.{Edge}
 abbrev pub IsTree : {Label : Type 0} → List (Edge Label) → Type 0
 IsTree edges = (k : ℕ) (edge : _) → slice_get edges k ≡ Some edge → edge.from ≤ k
 
+-- breadth first: the edges come from the nodes in their order
+abbrev pub IsInOrder : {Label : Type 0} → List (Edge Label) → Type 0
+IsInOrder edges = (k l : ℕ) (e f : Edge _) → k ≤ l → slice_get edges k ≡ Some e → slice_get edges l ≡ Some f → e.from ≤ f.from
+
 -- the labels of at most so many edges on the way to the node
 abbrev pub last_labels : {Label : Type 0} → ℕ → List (Edge Label) → ℕ → List Label
 last_labels zero edges node = []

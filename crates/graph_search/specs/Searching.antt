@@ -1,12 +1,19 @@
 -- What a search keeps on its way.
-use Rattle.std.specs.Prelude.{◌≡◌, ◌≤◌, ◌<◌, ◌⊎◌, ℕ, suc, true, List, ◌++◌, length, slice_get, Option, Some}
+use Rattle.std.specs.Prelude.{◌≡◌, ◌≤◌, ◌<◌, ◌⊎◌, ℕ, zero, suc, false, true, List, [], ◌∷◌, ◌++◌, length, slice_get, Option, Some}
 use Rattle.std.specs.declared.cmp.Ordering.{Ordering}
 use Rattle.std.specs.declared.cmp.Ordering.TheVariants.{Equal}
 use Rattle.std.specs.BTreeSet.{BTreeSet, contains}
 use Rattle.graph_search.specs.declared.found.Edge.{Edge}
 use Rattle.graph_search.specs.declared.meeting.Search.{Search}
 use Rattle.graph_search.specs.declared.space.Successor.{Successor}
-use Rattle.graph_search.specs.Told.{IsFound, Tells}
+use Rattle.graph_search.specs.declared.expanding.Stop.{Stop}
+use Rattle.graph_search.specs.declared.expanding.Stop.TheVariants.{Cut, Fault}
+use Rattle.graph_search.specs.Told.{IsFound, KeysAgree, Tells, TellsOnce}
+
+-- a fault that stops a search has its cause
+abbrev pub StopHasCause : {F : Type 0} → (F → Type 0) → Stop F → Type 0
+StopHasCause IsFault (Cut why) = Unit {0}
+StopHasCause IsFault (Fault fault) = IsFault fault
 
 module _ {Label Key : Type 0} where
   -- the edge comes from there, and its label is that of one of the first n
@@ -47,8 +54,45 @@ module _ {Label Key Note : Type 0} where
     pub anew : (q : Key) → contains cmp new.seen q ≡ true
         → (contains cmp old.seen q ≡ true) ⊎ IsAdded cmp told n adds.more q
 
+-- ---- one edge after another
+
+module _ {Label Key Note : Type 0} (cmp : Key → Key → Ordering) (from : ℕ) where
+  -- the node of an edge was added: its key wasn't seen, and is now
+  pub record IsAnew (s : Successor Label Key) (old new : Search Label Key Note) : Type 0 where
+    pub edges : new.edges.items ≡ old.edges.items ++ (record { from = from; label = s.label }) ∷ []
+    pub unseen : contains cmp old.seen s.key ≡ false
+    pub kept : (q : Key) → contains cmp old.seen q ≡ true → contains cmp new.seen q ≡ true
+    pub seen : (q : Key) → cmp s.key q ≡ Equal → contains cmp new.seen q ≡ true
+
+  -- its key was seen, and nothing was added
+  pub record IsKnown (old new : Search Label Key Note) : Type 0 where
+    pub edges : new.edges.items ≡ old.edges.items
+    pub kept : (q : Key) → contains cmp old.seen q ≡ true → contains cmp new.seen q ≡ true
+
+  abbrev pub MeetsOne : Successor Label Key → Search Label Key Note → Search Label Key Note → Type 0
+  MeetsOne s old new = IsKnown old new ⊎ IsAnew s old new
+
+  -- the first n edges were met in turn
+  abbrev pub MeetsInTurn : List (Successor Label Key) → ℕ → Search Label Key Note → Search Label Key Note → Type 0
+  MeetsInTurn told zero old new = new ≡ old
+  MeetsInTurn told (suc n) old new =
+      (mid : Search Label Key Note) × ((s : Successor Label Key)
+      × ((slice_get told n ≡ Some s) × (MeetsInTurn told n old mid × MeetsOne s mid new)))
+
+  -- so many of the first n edges were met in turn, and no other was added
+  pub record MeetsSome (told : List (Successor Label Key)) (old : Search Label Key Note) (edges : List (Edge Label)) : Type 0 where
+    pub met : ℕ
+    pub there : Search Label Key Note
+    pub in_turn : MeetsInTurn told met old there
+    pub edges_are : edges ≡ there.edges.items
+
 module _ {Node Label Key : Type 0} (after : Node → Label → Option Node) (IsKey : Node → Key → Type 0) (cmp : Key → Key → Ordering)
     (start : Node) where
+  -- no node is told twice, and all keys of nodes that are told are seen
+  pub record AreToldOnce (edges : List (Edge Label)) (keys : BTreeSet Key) : Type 0 where
+    pub once : TellsOnce after start edges
+    pub all_seen : (i : ℕ) (node : Node) (key : Key) → IsFound after start edges i node → IsKey node key → contains cmp keys key ≡ true
+
   -- a node that was found has a key to which this one is equal
   pub record IsKeyFound (edges : List (Edge Label)) (q : Key) : Type 0 where
     pub number : ℕ
@@ -74,9 +118,9 @@ module _ {Node Label Key Note : Type 0} (after : Node → Label → Option Node)
     -- the edges of the first nodes were followed
     pub followed : (i : ℕ) (node : Node) (label : Label) (next : Node) → i < length notes
         → IsFound after start edges i node → after node label ≡ Some next → IsMetBy after IsKey cmp start edges i next
-    -- breadth first: the edges come from the nodes in their order, and from those whose edges were followed
-    pub in_order : (k l : ℕ) (e f : Edge Label) → k ≤ l → slice_get edges k ≡ Some e → slice_get edges l ≡ Some f → e.from ≤ f.from
+    -- edges come from nodes whose edges were followed
     pub before : (k : ℕ) (e : Edge Label) → slice_get edges k ≡ Some e → e.from < length notes
+    pub once : KeysAgree IsKey cmp → AreToldOnce after IsKey cmp start edges keys
 
   abbrev pub Searched : Search Label Key Note → Type 0
   Searched s = SearchedAt s.edges.items s.notes.items s.seen

@@ -4,7 +4,7 @@ use Rattle.std.specs.declared.cmp.Ordering.{Ordering}
 use Rattle.std.specs.declared.cmp.Ordering.TheVariants.{Equal}
 use Rattle.graph_search.specs.declared.found.Edge.{Edge}
 use Rattle.graph_search.specs.Graph.{node_by}
-use Rattle.graph_search.specs.Paths.{IsTree, labels_to}
+use Rattle.graph_search.specs.Paths.{IsInOrder, IsTree, labels_to}
 
 module _ {Node Label : Type 0} (after : Node → Label → Option Node) (start : Node) where
   -- the node of this number is that one: its path leads there
@@ -22,15 +22,24 @@ module _ {Node Label : Type 0} (after : Node → Label → Option Node) (start :
   abbrev pub TellsAll : List (Edge Label) → Type 0
   TellsAll edges = (path : List Label) (node : Node) → node_by after start path ≡ Some node → IsTold edges node (length path)
 
+  -- no node is told twice
+  abbrev pub TellsOnce : List (Edge Label) → Type 0
+  TellsOnce edges = (i j : ℕ) (node : Node) → IsFound edges i node → IsFound edges j node → i ≡ j
+
   -- no two nodes to which paths lead have keys that compare as equal
   abbrev pub KeysTell : {Key : Type 0} → (Node → Key → Type 0) → (Key → Key → Ordering) → Type 0
   KeysTell {Key} IsKey cmp = (p q : List Label) (m n : Node) (j k : Key) → node_by after start p ≡ Some m → node_by after start q ≡ Some n
       → IsKey m j → IsKey n k → cmp j k ≡ Equal → m ≡ n
 
+-- all keys of one node compare as equal
+abbrev pub KeysAgree : {Node Key : Type 0} → (Node → Key → Type 0) → (Key → Key → Ordering) → Type 0
+KeysAgree {Node} {Key} IsKey cmp = (node : Node) (j k : Key) → IsKey node j → IsKey node k → cmp j k ≡ Equal
+
 module _ {Node Label Note : Type 0} (after : Node → Label → Option Node) (IsNote : Node → Note → Type 0) (start : Node) where
-  -- sound: each node that is told is one to which its path leads, and each note is right of its node
+  -- sound: each node that is told is one to which its path leads, breadth first, and each note is right of its node
   pub record Tells (edges : List (Edge Label)) (notes : List Note) : Type 0 where
     pub tree : IsTree edges
+    pub in_order : IsInOrder edges
     pub led_to : (i : ℕ) → i ≤ length edges → (node : Node) × IsFound after start edges i node
     pub few : length notes ≤ length edges + 1
     pub noted : (i : ℕ) (node : Node) (note : Note) → IsFound after start edges i node → slice_get notes i ≡ Some note → IsNote node note

@@ -1,8 +1,8 @@
 //! The edges of a node are followed.
 
 ghost use Rattle.std.specs.Prelude.{◌≡◌, ◌≤◌, ◌+◌, ◌-◌, length, OnOk, OnErr, IfErr};
-ghost use Rattle.graph_search.specs.Searching.{Searched};
-ghost use Rattle.graph_search.specs.Told.{Tells};
+ghost use Rattle.graph_search.specs.Searching.{Searched, StopHasCause};
+ghost use Rattle.graph_search.specs.Told.{KeysAgree, Tells, TellsOnce};
 
 use crate::found::{Cut, path_to};
 use crate::meeting::{Search, meet_all};
@@ -33,6 +33,9 @@ pub(crate) fn expand<S: Space>(
     ensures one { OnOk result (length search.new.notes.items ≡ length search.old.notes.items + 1) }
     ensures err { let at = S.setting space.old in
         OnErr result (Tells (S.after at) (S.IsNote at) (S.start at) search.new.edges.items search.new.notes.items) }
+    ensures once { let at = S.setting space.old in
+        OnErr result (KeysAgree (S.IsKey at) S.Key.cmp → TellsOnce (S.after at) (S.start at) search.new.edges.items) }
+    ensures fault { IfErr result (StopHasCause (S.IsFault (S.setting space.old))) }
     ensures within { length search.new.edges.items ≤ limit - 1 }
     ensures full { IfErr result (λ stop. stop ≡ Stop.Cut Cut.Nodes → limit ≤ length search.new.edges.items + 1) }
 {

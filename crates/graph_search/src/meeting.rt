@@ -1,7 +1,7 @@
 //! The nodes to which edges lead are found, unless nodes with their keys were.
 
 ghost use Rattle.std.specs.Prelude.{◌≡◌, ◌≤◌, ◌+◌, ◌-◌, [], ◌∷◌, length, OnOk, OnErr, IfErr};
-ghost use Rattle.graph_search.specs.Searching.{Adds, Meets};
+ghost use Rattle.graph_search.specs.Searching.{Adds, Meets, MeetsInTurn, MeetsOne, MeetsSome};
 
 use crate::found::{Cut, Edge};
 use crate::space::Successor;
@@ -42,6 +42,7 @@ pub(crate) fn meet<L: Copy, K: Ord + Copy, N>(
 ) -> Result<(), Cut>
     ensures notes { search.new.notes.items ≡ search.old.notes.items }
     ensures ok { OnOk result (Meets K.cmp from (edge ∷ []) 1 search.old search.new) }
+    ensures one { OnOk result (MeetsOne K.cmp from edge search.old search.new) }
     ensures err { OnErr result (search.new.edges.items ≡ search.old.edges.items) }
     ensures within { length search.old.edges.items ≤ limit - 1 → length search.new.edges.items ≤ limit - 1 }
     ensures full { IfErr result (λ cut. cut ≡ Cut.Nodes → limit ≤ length search.new.edges.items + 1) }
@@ -74,7 +75,9 @@ pub(crate) fn meet_all<L: Copy, K: Ord + Copy, N>(
 ) -> Result<(), Cut>
     ensures notes { search.new.notes.items ≡ search.old.notes.items }
     ensures ok { OnOk result (Meets K.cmp from edges.now (length edges.now) search.old search.new) }
+    ensures in_turn { OnOk result (MeetsInTurn K.cmp from edges.now (length edges.now) search.old search.new) }
     ensures err { OnErr result (Adds from edges.now (length edges.now) search.old.edges.items search.new.edges.items) }
+    ensures some { OnErr result (MeetsSome K.cmp from edges.now search.old search.new.edges.items) }
     ensures within { length search.old.edges.items ≤ limit - 1 → length search.new.edges.items ≤ limit - 1 }
     ensures full { IfErr result (λ cut. cut ≡ Cut.Nodes → limit ≤ length search.new.edges.items + 1) }
 {

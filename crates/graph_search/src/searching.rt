@@ -1,7 +1,7 @@
 //! The search.
 
-ghost use Rattle.std.specs.Prelude.{◌≡◌, ◌≤◌, ◌+◌, ◌-◌, [], length, IfOk, OnOk};
-ghost use Rattle.graph_search.specs.Told.{KeysTell, Tells, TellsAll};
+ghost use Rattle.std.specs.Prelude.{◌≡◌, ◌≤◌, ◌+◌, ◌-◌, [], length, IfErr, IfOk, OnOk};
+ghost use Rattle.graph_search.specs.Told.{KeysAgree, KeysTell, Tells, TellsAll, TellsOnce};
 
 use crate::expanding::{Stop, expand};
 use crate::found::{Cut, Extent, Found};
@@ -26,6 +26,9 @@ fn go_on<S: Space, W: Watch>(
     ensures whole { let at = S.setting space.old in
         IfOk result (λ extent. extent ≡ Extent.Whole → KeysTell (S.after at) (S.start at) (S.IsKey at) S.Key.cmp
         → TellsAll (S.after at) (S.start at) search.new.edges.items) }
+    ensures once { let at = S.setting space.old in
+        OnOk result (KeysAgree (S.IsKey at) S.Key.cmp → TellsOnce (S.after at) (S.start at) search.new.edges.items) }
+    ensures fault { IfErr result (S.IsFault (S.setting space.old)) }
     ensures followed { IfOk result (λ extent. extent ≡ Extent.Whole
         → length search.new.notes.items ≡ length search.new.edges.items + 1) }
     ensures within { OnOk result (length search.new.edges.items ≤ limit - 1) }
@@ -56,11 +59,11 @@ fn go_on<S: Space, W: Watch>(
 
 /// All nodes to which paths of labels lead from the start, breadth first; or, where they are more than `limit` or memory ends, as many as
 /// were found. Each is found by a path that leads to it, and the first have notes. Where the search is whole each has one, and if no two
-/// nodes have one key, each path leads to a node that was found, by no longer path.
+/// nodes have one key, each path leads to a node that was found, by no longer path. No node is found twice, if all its keys are equal.
 ///
 /// # Errors
 ///
-/// A fault of the space, of which nothing is claimed.
+/// A fault of the space, which has its cause.
 pub fn search<S: Space, W: Watch>(
     alloc: Global,
     space: &mut S,
@@ -73,6 +76,9 @@ pub fn search<S: Space, W: Watch>(
     ensures whole { let at = S.setting space.old in
         IfOk result (λ found. found.extent ≡ Extent.Whole → KeysTell (S.after at) (S.start at) (S.IsKey at) S.Key.cmp
         → TellsAll (S.after at) (S.start at) found.edges.items) }
+    ensures once { let at = S.setting space.old in
+        IfOk result (λ found. KeysAgree (S.IsKey at) S.Key.cmp → TellsOnce (S.after at) (S.start at) found.edges.items) }
+    ensures fault { IfErr result (S.IsFault (S.setting space.old)) }
     ensures followed { IfOk result (λ found. found.extent ≡ Extent.Whole
         → length found.notes.items ≡ length found.edges.items + 1) }
     ensures within { IfOk result (λ found. length found.edges.items ≤ limit - 1) }

@@ -1,8 +1,8 @@
 //! What is searched, and who watches.
 
-ghost use Rattle.std.specs.Prelude.{◌≡◌, IfOk, Option, Some};
+ghost use Rattle.std.specs.Prelude.{◌≡◌, IfErr, IfOk, Option, Some};
 ghost use Rattle.graph_search.specs.Graph.{LeadsOn, node_by};
-ghost use Rattle.graph_search.specs.Edges.{AreEdgesFrom};
+ghost use Rattle.graph_search.specs.Edges.{AreEdgesFrom, HasCause};
 
 use std::alloc::AllocError;
 
@@ -54,10 +54,14 @@ pub trait Space {
     /// The note is right of the node.
     ghost IsNote: { Setting → Node → Self.Note → Type 0 };
 
+    /// The cause of a fault.
+    ghost IsFault: { Setting → Self.Fault → Type 0 };
+
     /// A key of the start.
     fn first(&mut self) -> Result<Self::Key, Unanswered<Self::Fault>>
         ensures kept { setting self.new ≡ setting self.old }
-        ensures key { IfOk result (λ key. IsKey (setting self.old) (start (setting self.old)) key) };
+        ensures key { IfOk result (λ key. IsKey (setting self.old) (start (setting self.old)) key) }
+        ensures fault { IfErr result (HasCause (IsFault (setting self.old))) };
 
     /// The edges that leave the node to which the path leads, and a note of it.
     fn successors(
@@ -70,7 +74,8 @@ pub trait Space {
             (node_by (after (setting self.old)) (start (setting self.old)) path.now) found.edges.items) }
         ensures note { IfOk result (λ found. (node : Node)
             → node_by (after (setting self.old)) (start (setting self.old)) path.now ≡ Some node
-            → IsNote (setting self.old) node found.note) };
+            → IsNote (setting self.old) node found.note) }
+        ensures fault { IfErr result (HasCause (IsFault (setting self.old))) };
 }
 
 /// How far a search has come.

@@ -39,6 +39,8 @@ impl Space for Ring {
 
     ghost IsNote = { λ at node note. Unit {0} };
 
+    ghost IsFault = { λ at fault. Unit {0} };
+
     fn first(&mut self) -> Result<usize, Unanswered<AllocError>> {
         Ok(0)
     }

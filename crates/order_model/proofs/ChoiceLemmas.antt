@@ -10,13 +10,13 @@ use Rattle.xk_base.specs.declared.limits.TheConstants.{TIMER_INTERRUPT}
 use Rattle.xk_base.specs.Tables.Counting.{listed_below}
 use Rattle.xk_base.specs.declared.ids.ThreadId.{ThreadId}
 use Rattle.machine_model.specs.State.Machine.{Machine}
-use Rattle.order_model.specs.Endings.{are_none, is_ending, ready_ids}
+use Rattle.order_model.specs.Endings.{are_none, is_ending, ready_ids, turns_at}
 use Rattle.order_model.specs.Moves.{Asked, Point, is_at_bound, what_comes}
 use Rattle.order_model.specs.Nodes.{goes_on}
 use Rattle.order_model.specs.declared.choices.Choice.{Choice}
 use Rattle.order_model.specs.declared.choices.Choice.TheVariants.{Comes}
 use Rattle.order_model.specs.Asking.{bound_of}
-use Rattle.order_model.specs.Choosing.{comes_at, turns_at}
+use Rattle.order_model.specs.Choosing.{comes_at}
 
 none_or : (b : Bool) (xs : List ThreadId) → are_none (if b then [] else xs) ≡ (are_none xs || b)
 none_or true [] = refl

@@ -12,13 +12,13 @@ use Rattle.machine_model.specs.State.Machine.{Machine, Thread}
 use Rattle.machine_model.specs.State.Order.{is_ready, ready_at}
 use Rattle.order_model.specs.declared.moves.Move.{Move}
 use Rattle.order_model.specs.declared.moves.Move.TheVariants.{Once, Slice}
-use Rattle.order_model.specs.Endings.{ready_ids}
+use Rattle.order_model.specs.Endings.{ready_ids, turns_at}
 use Rattle.order_model.specs.Moves.{Asked, Point, is_at_bound, leads, may_come, what_comes}
 use Rattle.order_model.specs.Nodes.{after, goes_on, node_of}
 use Rattle.order_model.proofs.Moving.NodeLemmas.{nodes_lead_alike}
 use Rattle.order_model.specs.declared.choices.Choice.{Choice}
 use Rattle.order_model.specs.declared.choices.Choice.TheVariants.{Comes, Goes}
-use Rattle.order_model.specs.Choosing.{choice_of, choices_at, comes_at, events_at, turns_at}
+use Rattle.order_model.specs.Choosing.{choice_of, choices_at, comes_at, events_at}
 use Rattle.order_model.specs.Edges.{AreEdgesBy, IsEdge}
 use Rattle.order_model.proofs.MoveLemmas.{may_come_there, may_go}
 use Rattle.graph_search.specs.declared.space.Successor.{Successor}

@@ -1,12 +1,11 @@
 -- What may come next at a point: a slice of a thread, or an event that hasn't come.
-use Rattle.std.specs.Prelude.{◌≡◌, ◌++◌, ℕ, Bool, true, List, [], length, map, is_some, if◌then◌else◌}
+use Rattle.std.specs.Prelude.{◌≡◌, ◌++◌, ℕ, Bool, true, List, length, map, is_some}
 use Rattle.std.specs.Option.{option_and_then}
-use Rattle.machine_model.specs.State.Machine.{Machine}
 use Rattle.order_model.specs.declared.moves.Move.{Move}
 use Rattle.order_model.specs.declared.moves.Move.TheVariants.{Once, Slice}
 use Rattle.order_model.specs.declared.moves.Note.{Note}
-use Rattle.order_model.specs.Endings.{is_ending, ready_ids}
-use Rattle.order_model.specs.Moves.{Asked, Point, is_at_bound, may_come, what_comes}
+use Rattle.order_model.specs.Endings.{turns_at}
+use Rattle.order_model.specs.Moves.{Asked, Point, may_come, what_comes}
 use Rattle.order_model.specs.Nodes.{goes_on}
 use Rattle.order_model.specs.Searches.{note_of}
 use Rattle.order_model.specs.declared.choices.Choice.{Choice}
@@ -15,17 +14,12 @@ use Rattle.order_model.specs.declared.orders.Trail.{Trail}
 use Rattle.order_model.specs.Asking.{came_of}
 use Rattle.snapshot_rows.specs.declared.state.State.{State}
 use Rattle.snapshot_rows.specs.Machines.{machine_of}
-use Rattle.xk_base.specs.declared.ids.ThreadId.{ThreadId}
 use Rattle.xk_base.specs.Tables.Counting.{listed_below}
 
 -- whose slice it is, or which event comes
 abbrev pub choice_of : Move → Choice
 choice_of (Slice who steps) = Goes who
 choice_of (Once number) = Comes number
-
--- the threads that may have a slice
-abbrev pub turns_at : Asked → Machine → List ThreadId
-turns_at asked m = if is_at_bound asked.bound m then [] else ready_ids m
 
 -- the event of that number may come
 abbrev pub comes_at : Asked → Point → ℕ → Bool
@@ -46,8 +40,8 @@ pub record IsStand (p : Point) (state : State) (trail : Trail) : Type 0 where
   pub console : trail.console.items ≡ p.console
   pub came : (k : ℕ) → came_of trail.came.items k ≡ p.came k
 
--- what was seen at a point: orders go on there, the choices are these, and the note tells whether orders end there
+-- what was seen at a point: orders go on there, the choices are these, and the note is right
 pub record IsSeen (asked : Asked) (p : Point) (choices : List Choice) (note : Note) : Type 0 where
   pub goes_on : goes_on asked.bound p.state ≡ true
   pub choices_are : choices ≡ choices_at asked p
-  pub note_is : note ≡ note_of (is_ending asked p.state)
+  pub note_is : note ≡ note_of asked p.state

@@ -27,6 +27,10 @@ are_none (who ∷ others) = false
 abbrev pub is_ending : Asked → Machine → Bool
 is_ending asked m = are_none (ready_ids m) || is_at_bound asked.bound m
 
+-- the threads that may have a slice
+abbrev pub turns_at : Asked → Machine → List ThreadId
+turns_at asked m = if is_at_bound asked.bound m then [] else ready_ids m
+
 -- ---- what is seen
 
 -- a server holds the message that is waited for, or has it queued
@@ -100,11 +104,11 @@ seen_of p = record {
 
 -- ---- laws
 
--- **All points of a node are seen alike**, and end orders alike.
+-- **All points of a node are seen alike**, end orders alike, and have the same slices.
 pub record AreSeenAlike (asked : Asked) (p : Point) : Type 0 where
   pub seen : seen_of (node_of asked p) ≡ seen_of p
   pub ending : is_ending asked (node_of asked p).state ≡ is_ending asked p.state
-  pub ready : ready_ids (node_of asked p).state ≡ ready_ids p.state
+  pub turns : turns_at asked (node_of asked p).state ≡ turns_at asked p.state
 
 abbrev pub NodesAreSeenAlike : Type 0
 NodesAreSeenAlike = (asked : Asked) (p : Point) → AreSeenAlike asked p

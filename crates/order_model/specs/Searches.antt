@@ -1,5 +1,5 @@
 -- What a search of nodes says of orders: what it tells is so, and where it is whole each order is among what it tells.
-use Rattle.std.specs.Prelude.{◌≡◌, ◌≤◌, ◌+◌, ℕ, Bool, true, false, List, length, slice_get, Some}
+use Rattle.std.specs.Prelude.{◌≡◌, ◌≤◌, ◌+◌, ℕ, true, List, length, slice_get, Some}
 use Rattle.machine_model.specs.Runs.Matched.{Matched}
 use Rattle.graph_search.specs.declared.found.Edge.{Edge}
 use Rattle.graph_search.specs.Graph.{node_by}
@@ -7,21 +7,21 @@ use Rattle.graph_search.specs.Paths.{labels_to}
 use Rattle.graph_search.specs.Told.{IsFound, Tells, TellsAll}
 use Rattle.order_model.specs.declared.moves.Move.{Move}
 use Rattle.order_model.specs.declared.moves.Note.{Note}
-use Rattle.order_model.specs.declared.moves.Note.TheVariants.{Ending, Inner}
-use Rattle.order_model.specs.Endings.{is_ending}
+use Rattle.order_model.specs.Endings.{is_ending, turns_at}
+use Rattle.machine_model.specs.State.Machine.{Machine}
 use Rattle.order_model.specs.Moves.{Asked, Point, leads_by}
 use Rattle.order_model.specs.Nodes.{after, goes_on, node_of}
 
 -- ---- notes
 
-abbrev pub note_of : Bool → Note
-note_of true = Ending
-note_of false = Inner
+-- whether orders end there, and how many slices may come next
+abbrev pub note_of : Asked → Machine → Note
+note_of asked m = record { ends = is_ending asked m; slices = length (turns_at asked m) }
 
--- the note is right of the node: orders may go on from there, and it tells whether they end there
+-- the note is right of the node, from which orders may go on
 pub record IsNoteOf (asked : Asked) (node : Point) (note : Note) : Type 0 where
   pub goes_on : goes_on asked.bound node.state ≡ true
-  pub is : note ≡ note_of (is_ending asked node.state)
+  pub is : note ≡ note_of asked node.state
 
 -- ---- what was told
 
@@ -47,18 +47,18 @@ pub record LeadsTo (asked : Asked) (p : Point) (order : List Move) (node : Point
   pub leads : leads_by asked p order ≡ Some last
   pub is : node_of asked last ≡ node
 
--- the node of this number is told: its labels are an order, which leads to a point of it, and its note tells whether that is an ending
+-- the node of this number is told: its labels are an order, which leads to a point of it, and its note is right of that
 pub record IsToldOrder (t : Telling) (number : ℕ) : Type 0 where
   pub last : Point
   pub leads : leads_by t.asked t.start (labels_to t.edges number) ≡ Some last
-  pub noted : (note : Note) → slice_get t.notes number ≡ Some note → note ≡ note_of (is_ending t.asked last.state)
+  pub noted : (note : Note) → slice_get t.notes number ≡ Some note → note ≡ note_of t.asked last.state
 
--- the node of this point is told, by an order of so many moves at most, and noted as an ending where it is one
+-- the node of this point is told, by an order of so many moves at most, with its note
 pub record IsPointTold (t : Telling) (p : Point) (most : ℕ) : Type 0 where
   pub number : ℕ
   pub found : IsFound (after t.asked) (node_of t.asked t.start) t.edges number (node_of t.asked p)
   pub no_longer : length (labels_to t.edges number) ≤ most
-  pub noted : slice_get t.notes number ≡ Some (note_of (is_ending t.asked p.state))
+  pub noted : slice_get t.notes number ≡ Some (note_of t.asked p.state)
 
 -- ---- laws
 
@@ -72,8 +72,8 @@ PathsAreOrders =
 abbrev pub ToldAreOrders : Type 0
 ToldAreOrders = (t : Telling) (number : ℕ) → Matched t.start.state → IsSound t → number ≤ length t.edges → IsToldOrder t number
 
--- **A whole search leaves no order out**: each order from the start leads to a point of a node that is told, by no longer order, and
--- where it ends, that is noted.
+-- **A whole search leaves no order out**: each order from the start leads to a point of a node that is told, by no longer order, and its
+-- note is right of that point.
 abbrev pub OrdersAreTold : Type 0
 OrdersAreTold =
     (t : Telling) (order : List Move) (last : Point) → Matched t.start.state → IsSound t → IsWhole t

@@ -1,13 +1,13 @@
 //! What may come next at a state.
 
-ghost use Rattle.std.specs.Prelude.{◌≡◌, ◌<◌, ◌≤◌, ◌^◌, ◌++◌, ◌∷◌, [], ℕ, IfOk, List, OnOk, Some, if◌then◌else◌, is_some, length, map, slice_get};
+ghost use Rattle.std.specs.Prelude.{◌≡◌, ◌<◌, ◌≤◌, ◌^◌, ◌++◌, ◌∷◌, [], ℕ, Err, IfOk, List, OnOk, Some, false, if◌then◌else◌, is_some, length, map, slice_get};
 ghost use Rattle.machine_model.specs.State.Machine.{Machine};
-ghost use Rattle.order_model.specs.Endings.{are_none};
-ghost use Rattle.order_model.specs.Moves.{Point, what_comes};
+ghost use Rattle.order_model.specs.Endings.{turns_at};
+ghost use Rattle.order_model.specs.Moves.{Asked, Point, what_comes};
 ghost use Rattle.order_model.specs.Nodes.{goes_on};
-ghost use Rattle.order_model.specs.Searches.{note_of as note_of_ending};
+ghost use Rattle.order_model.specs.Searches.{note_of as note_of_state};
 ghost use Rattle.order_model.specs.Asking.{asked_of, bound_of, came_of};
-ghost use Rattle.order_model.specs.Choosing.{IsSeen, IsStand, comes_at, events_at, turns_at};
+ghost use Rattle.order_model.specs.Choosing.{IsSeen, IsStand, comes_at, events_at};
 ghost use Rattle.snapshot_rows.specs.Machines.{machine_of};
 ghost use Rattle.order_model.specs.declared.choices.Choice.TheVariants.{Comes, Goes};
 ghost use Rattle.xk_base.specs.declared.limits.TheConstants.{PROCESS_LIMIT};
@@ -132,20 +132,15 @@ fn go_on(orders: &Orders, state: &State) -> bool
     }
 }
 
-/// Whether there is no thread among them.
-fn is_none(ids: &[ThreadId]) -> bool
-    ensures { result ≡ are_none ids.now }
-{
-    ids.is_empty()
-}
-
 /// What is seen at a state, with what the order to it left.
 pub fn see(alloc: Global, orders: &Orders, state: &State, trail: &Trail) -> Result<Sight, Unseen>
     requires processes { state.now.n ≤ PROCESS_LIMIT }
     requires few { length orders.now.once.items < 2 ^ 32 }
     requires came { length trail.now.came.items ≡ length orders.now.once.items }
-    ensures { (p : Point) → IsStand p state.now trail.now
+    ensures seen { (p : Point) → IsStand p state.now trail.now
         → IfOk result (λ sight. IsSeen (asked_of orders.now) p sight.choices.items sight.note) }
+    ensures timer { (p : Point) → IsStand p state.now trail.now → result ≡ Err Unseen.Timer
+        → goes_on (bound_of orders.now.bound) p.state ≡ false }
 {
     if !go_on(orders, state) {
         return Err(Unseen::Timer);
@@ -153,7 +148,7 @@ pub fn see(alloc: Global, orders: &Orders, state: &State, trail: &Trail) -> Resu
     let Ok(ids) = turns(alloc, orders, state) else {
         return Err(Unseen::Memory);
     };
-    let note = note_of(is_none(&ids));
+    let note = note_of(&ids);
     let mut choices = Vec::new(alloc);
     let Ok(()) = add_turns(&mut choices, &ids) else {
         return Err(Unseen::Memory);
@@ -164,9 +159,12 @@ pub fn see(alloc: Global, orders: &Orders, state: &State, trail: &Trail) -> Resu
     Ok(Sight { choices, note })
 }
 
-/// The note of a node at which no thread may have a slice, or some may.
-fn note_of(is_ending: bool) -> Note
-    ensures { result ≡ note_of_ending is_ending }
+/// The note of a node at which these threads may have a slice.
+fn note_of(ids: &[ThreadId]) -> Note
+    ensures { (asked : Asked) (m : Machine) → ids.now ≡ turns_at asked m → result ≡ note_of_state asked m }
 {
-    if is_ending { Note::Ending } else { Note::Inner }
+    Note {
+        ends: ids.is_empty(),
+        slices: ids.len(),
+    }
 }

@@ -13,9 +13,9 @@ pub enum Move {
 
 /// What a search notes of a node whose moves it followed.
 #[derive(Clone, Copy, Debug, PartialEq, Eq)]
-pub enum Note {
-    /// Orders go on there.
-    Inner,
-    /// Orders end there.
-    Ending,
+pub struct Note {
+    /// Whether orders end there.
+    pub ends: bool,
+    /// How many slices were tried from there.
+    pub slices: usize,
 }

@@ -39,7 +39,8 @@ pub fn orders_are_paths()
     ensures { OrdersArePaths }
 {}
 
-/// **All points of a node are seen alike**: the bytes of the console, which processes live, and what their threads are about.
+/// **All points of a node are seen alike**: the bytes of the console, which processes live, and what their threads are about. They end
+/// orders alike, and have the same slices.
 pub fn nodes_are_seen_alike()
     ensures { NodesAreSeenAlike }
 {}
@@ -50,13 +51,13 @@ pub fn paths_are_orders()
 {}
 
 /// **What a search tells is so.** The labels on the way to a node that is told are an order, which leads to a point of it, and the note
-/// tells whether the order ends there.
+/// is right of that point.
 pub fn told_are_orders()
     ensures { ToldAreOrders }
 {}
 
-/// **A whole search leaves no order out.** Each order from the start leads to a point of a node that is told, by no longer order, and is
-/// noted as an ending where it is one.
+/// **A whole search leaves no order out.** Each order from the start leads to a point of a node that is told, by no longer order, and its
+/// note is right of that point.
 pub fn orders_are_told()
     ensures { OrdersAreTold }
 {}

@@ -4,5 +4,5 @@
 mod moves;
 mod slices;
 
-pub use moves::{play_move, play_order, play_thread};
-pub use slices::{MoveFault, play_slice};
+pub use moves::{MoveFault, play_move, play_order, play_thread};
+pub use slices::{SliceFault, play_slice};

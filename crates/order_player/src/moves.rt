@@ -1,6 +1,6 @@
 //! Moves are played on a kernel.
 
-ghost use Rattle.std.specs.Prelude.{◌≡◌, ◌<◌, IfOk, IsSome, OnOk, Err, Some, false, length, set, slice_get, true};
+ghost use Rattle.std.specs.Prelude.{◌≡◌, ◌≢◌, ◌<◌, IfOk, IsSome, OnOk, Err, Some, false, length, set, slice_get, true};
 ghost use Rattle.xk_base.specs.Outside.{Rose};
 ghost use Rattle.machine_model.specs.State.Order.{ready_at};
 ghost use Rattle.vm_memory.specs.Memory.{store_of};
@@ -10,14 +10,25 @@ ghost use Rattle.xk_kernel.specs.State.{machine_of};
 ghost use Rattle.order_model.specs.Moves.{is_at_bound, leads, leads_by};
 ghost use Rattle.order_model.specs.declared.moves.Move.TheVariants.{Once, Slice};
 ghost use Rattle.order_model.specs.Asking.{asked_of, bound_of};
-ghost use Rattle.order_player.specs.Runs.{point_of};
+ghost use Rattle.order_player.specs.Runs.{IsNearLimit, MeetsLimit, point_of};
 
-use crate::slices::{MoveFault, play_slice, push_bytes};
+use crate::slices::{SliceFault, play_slice, push_bytes};
 use order_model::{Move, Orders, Trail};
 use xk_base::limits::STEP_LIMIT;
 use xk_base::{Event, ThreadId};
 use xk_kernel::Kernel;
 use xk_ports::SwapStore;
+
+/// Why a move wasn't played to its end.
+#[derive(Clone, Copy, Debug, PartialEq, Eq)]
+pub enum MoveFault {
+    /// The store failed.
+    Swap,
+    /// There was no memory for the bytes of the console.
+    Memory,
+    /// A run may not have as many steps.
+    Steps,
+}
 
 /// Plays the slice of a thread that is Ready, and answers how many steps it has.
 pub fn play_thread<W: SwapStore>(
@@ -38,13 +49,18 @@ pub fn play_thread<W: SwapStore>(
     ensures sound { IsSound W.SwapStore kernel.new }
     ensures usable { OnOk result (IsUsable kernel.new) }
     ensures swap { result ≡ Err MoveFault.Swap → Rose (W.faults (store_of kernel.old.mem)) (W.faults (store_of kernel.new.mem)) }
+    ensures steps { result ≡ Err MoveFault.Steps → IsNearLimit (asked_of orders.now) (point_of W.SwapStore kernel.old trail.old) }
     ensures keeps { Keeps W.SwapStore kernel.old kernel.new }
 {
     let most = orders.most_steps(kernel.steps());
     if u64::from(kernel.steps()) + u64::from(most) > u64::from(STEP_LIMIT) {
         return Err(MoveFault::Steps);
     }
-    play_slice(kernel, who, most, &mut trail.console)
+    match play_slice(kernel, who, most, &mut trail.console) {
+        Ok(steps) => Ok(steps),
+        Err(SliceFault::Swap) => Err(MoveFault::Swap),
+        Err(SliceFault::Memory) => Err(MoveFault::Memory),
+    }
 }
 
 /// The event of this number.
@@ -81,6 +97,7 @@ fn play_once<W: SwapStore>(
     ensures sound { IsSound W.SwapStore kernel.new }
     ensures usable { IsUsable kernel.new }
     ensures swap { result ≡ Err MoveFault.Swap → Rose (W.faults (store_of kernel.old.mem)) (W.faults (store_of kernel.new.mem)) }
+    ensures steps { result ≢ Err MoveFault.Steps }
     ensures keeps { Keeps W.SwapStore kernel.old kernel.new }
 {
     kernel.event_start(event_of(orders, number));
@@ -110,6 +127,7 @@ pub fn play_move<W: SwapStore>(
     ensures sound { IsSound W.SwapStore kernel.new }
     ensures usable { OnOk result (IsUsable kernel.new) }
     ensures swap { result ≡ Err MoveFault.Swap → Rose (W.faults (store_of kernel.old.mem)) (W.faults (store_of kernel.new.mem)) }
+    ensures steps { result ≡ Err MoveFault.Steps → IsNearLimit (asked_of orders.now) (point_of W.SwapStore kernel.old trail.old) }
     ensures keeps { Keeps W.SwapStore kernel.old kernel.new }
 {
     match next {
@@ -140,6 +158,7 @@ pub fn play_order<W: SwapStore>(
     ensures sound { IsSound W.SwapStore kernel.new }
     ensures usable { OnOk result (IsUsable kernel.new) }
     ensures swap { result ≡ Err MoveFault.Swap → Rose (W.faults (store_of kernel.old.mem)) (W.faults (store_of kernel.new.mem)) }
+    ensures steps { result ≡ Err MoveFault.Steps → MeetsLimit (asked_of orders.now) (point_of W.SwapStore kernel.old trail.old) }
     ensures keeps { Keeps W.SwapStore kernel.old kernel.new }
 {
     for next in order {

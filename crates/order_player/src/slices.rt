@@ -16,15 +16,13 @@ use xk_base::{Event, Rec, ThreadId, What};
 use xk_kernel::{Kernel, Stepped, SwapFault};
 use xk_ports::SwapStore;
 
-/// Why a move wasn't played to its end.
+/// Why a slice wasn't played to its end.
 #[derive(Clone, Copy, Debug, PartialEq, Eq)]
-pub enum MoveFault {
+pub enum SliceFault {
     /// The store failed.
     Swap,
     /// There was no memory for the bytes of the console.
     Memory,
-    /// A run may not have as many steps.
-    Steps,
 }
 
 /// What came of some steps of a slice: it goes on with at most so many, or is over where so many were left.
@@ -51,7 +49,7 @@ fn play_loud<W: SwapStore>(
     kernel: &mut Kernel<W>,
     left: u32,
     console: &mut Vec<u8>,
-) -> Result<Part, MoveFault>
+) -> Result<Part, SliceFault>
     requires sound { IsSound W.SwapStore kernel.old }
     requires usable { IsUsable kernel.old }
     requires some { 0 < left }
@@ -62,16 +60,16 @@ fn play_loud<W: SwapStore>(
     ensures counts { IfOk result (λ part. part_left part + kernel.new.steps ≤ left + kernel.old.steps) }
     ensures sound { IsSound W.SwapStore kernel.new }
     ensures usable { OnOk result (IsUsable kernel.new) }
-    ensures swap { result ≡ Err MoveFault.Swap → Rose (W.faults (store_of kernel.old.mem)) (W.faults (store_of kernel.new.mem)) }
+    ensures swap { result ≡ Err SliceFault.Swap → Rose (W.faults (store_of kernel.old.mem)) (W.faults (store_of kernel.new.mem)) }
     ensures keeps { Keeps W.SwapStore kernel.old kernel.new }
 {
     match kernel.step() {
         Ok(Stepped::Did) => {}
         Ok(Stepped::Idle) => return Ok(Part::Over(left)),
-        Err(SwapFault) => return Err(MoveFault::Swap),
+        Err(SwapFault) => return Err(SliceFault::Swap),
     }
     let Ok(()) = push_bytes(kernel.last(), console) else {
-        return Err(MoveFault::Memory);
+        return Err(SliceFault::Memory);
     };
     if kernel.last().is_empty() {
         return Ok(Part::On(left - 1));
@@ -84,7 +82,7 @@ fn play_some<W: SwapStore>(
     kernel: &mut Kernel<W>,
     most: u32,
     console: &mut Vec<u8>,
-) -> Result<Part, MoveFault>
+) -> Result<Part, SliceFault>
     requires sound { IsSound W.SwapStore kernel.old }
     requires usable { IsUsable kernel.old }
     requires some { 0 < most }
@@ -95,11 +93,11 @@ fn play_some<W: SwapStore>(
     ensures counts { IfOk result (λ part. part_left part + kernel.new.steps ≤ most + kernel.old.steps) }
     ensures sound { IsSound W.SwapStore kernel.new }
     ensures usable { OnOk result (IsUsable kernel.new) }
-    ensures swap { result ≡ Err MoveFault.Swap → Rose (W.faults (store_of kernel.old.mem)) (W.faults (store_of kernel.new.mem)) }
+    ensures swap { result ≡ Err SliceFault.Swap → Rose (W.faults (store_of kernel.old.mem)) (W.faults (store_of kernel.new.mem)) }
     ensures keeps { Keeps W.SwapStore kernel.old kernel.new }
 {
     let Ok(quiet) = kernel.run_quiet(most) else {
-        return Err(MoveFault::Swap);
+        return Err(SliceFault::Swap);
     };
     if quiet == most {
         return Ok(Part::Over(0));
@@ -112,7 +110,7 @@ fn play_steps<W: SwapStore>(
     kernel: &mut Kernel<W>,
     most: u32,
     console: &mut Vec<u8>,
-) -> Result<u32, MoveFault>
+) -> Result<u32, SliceFault>
     requires sound { IsSound W.SwapStore kernel.old }
     requires usable { IsUsable kernel.old }
     requires few { (machine_of W.held kernel.old).steps + most ≤ STEP_LIMIT }
@@ -121,7 +119,7 @@ fn play_steps<W: SwapStore>(
     ensures fewer { IfOk result (λ left. left ≤ most) }
     ensures sound { IsSound W.SwapStore kernel.new }
     ensures usable { OnOk result (IsUsable kernel.new) }
-    ensures swap { result ≡ Err MoveFault.Swap → Rose (W.faults (store_of kernel.old.mem)) (W.faults (store_of kernel.new.mem)) }
+    ensures swap { result ≡ Err SliceFault.Swap → Rose (W.faults (store_of kernel.old.mem)) (W.faults (store_of kernel.new.mem)) }
     ensures keeps { Keeps W.SwapStore kernel.old kernel.new }
 {
     let mut left = most;
@@ -141,7 +139,7 @@ pub fn play_slice<W: SwapStore>(
     who: ThreadId,
     quantum: u32,
     console: &mut Vec<u8>,
-) -> Result<u32, MoveFault>
+) -> Result<u32, SliceFault>
     requires sound { IsSound W.SwapStore kernel.old }
     requires usable { IsUsable kernel.old }
     requires few { (machine_of W.held kernel.old).steps + quantum ≤ STEP_LIMIT }
@@ -150,7 +148,7 @@ pub fn play_slice<W: SwapStore>(
         (shown W.SwapStore kernel.new console.new.items)) }
     ensures sound { IsSound W.SwapStore kernel.new }
     ensures usable { OnOk result (IsUsable kernel.new) }
-    ensures swap { result ≡ Err MoveFault.Swap → Rose (W.faults (store_of kernel.old.mem)) (W.faults (store_of kernel.new.mem)) }
+    ensures swap { result ≡ Err SliceFault.Swap → Rose (W.faults (store_of kernel.old.mem)) (W.faults (store_of kernel.new.mem)) }
     ensures keeps { Keeps W.SwapStore kernel.old kernel.new }
 {
     kernel.event_start(Event::Pick(who.pid, who.tid));

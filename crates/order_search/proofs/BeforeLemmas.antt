@@ -32,6 +32,14 @@ pub told_bytes : (records : List Rec) → told_by Run records ≡ bytes_of recor
 told_bytes [] = refl
 told_bytes (rec ∷ records) = λ i. same_byte rec.what i ++ told_bytes records i
 
+-- a file that was played ended so
+pub ended_before : (m : Machine) (left : Option (List ℕ)) (events : List ℕ) (begun : Option (List ℕ)) (now : Stand) (ending : Ending)
+    → left ≡ Some events → now.trusted ≡ true → PlaysOut (run_from Run STEP_LIMIT m (put begun)) left now ending
+    → (run_of STEP_LIMIT m events).ending ≡ ending
+ended_before m left events begun now ending told trusted runs =
+    let same : events ≡ runs.bytes = subst (λ (l : Option (List ℕ)). IsTold l runs.bytes) told runs.file in
+    ap (λ (e : List ℕ). (run_of STEP_LIMIT m e).ending) same ∙ (runs.exact (inl trusted)).0.ended
+
 -- what is written of a file that was played, on a console on which nothing stood
 pub played_before : (m : Machine) (left : Option (List ℕ)) (events begun console : List ℕ) (now : Stand) (ending : Ending) → left ≡ Some events
     → begun ≡ [] → now.trusted ≡ true → now.text ≡ put (Some console)

@@ -9,11 +9,11 @@ use Rattle.std.proofs.lemmas.Option.{get_or_from_slice_get, slice_get-get_or}
 use Rattle.machine_model.specs.State.Order.{ready_at}
 use Rattle.machine_model.specs.Stepping.Step.{Recorded}
 use Rattle.order_model.specs.declared.moves.Move.TheVariants.{Once}
-use Rattle.order_model.specs.Endings.{ready_ids}
+use Rattle.order_model.specs.Endings.{ready_ids, turns_at}
 use Rattle.order_model.specs.Moves.{Asked, Point, behind, is_at_bound, leads, may_come, what_comes, with_come}
 use Rattle.order_model.specs.declared.choices.Choice.{Choice}
 use Rattle.order_model.specs.declared.choices.Choice.TheVariants.{Comes, Goes}
-use Rattle.order_model.specs.Choosing.{choices_at, comes_at, events_at, turns_at}
+use Rattle.order_model.specs.Choosing.{choices_at, comes_at, events_at}
 use Rattle.order_search.specs.Quests.{IsChoice}
 use Rattle.xk_base.specs.declared.ids.ThreadId.{ThreadId}
 use Rattle.xk_base.specs.Tables.Circle.{id_at, is_thread_id, listed_ids}

@@ -1,5 +1,5 @@
 -- What spells a node, by the bytes of any of its states.
-use Rattle.std.proofs.Common.{◌≡◌, ℕ, Bool, true, false, List, [], ◌∷◌, ◌++◌, take, drop, refl, sym, ap, ◌∙◌, append_assoc, arith, length, take_all, ◌-◌, ◌≤◌}
+use Rattle.std.proofs.Common.{◌≡◌, ℕ, true, false, List, [], ◌∷◌, ◌++◌, take, drop, refl, sym, ap, ◌∙◌, append_assoc, arith, length, take_all, ◌-◌, ◌≤◌}
 use Rattle.std.proofs.lemmas.List.{length-drop}
 use Rattle.std.proofs.lemmas.Bool.{false≢true}
 use Rattle.xk_base.specs.declared.events.Event.{Event}
@@ -9,7 +9,7 @@ use Rattle.suspend_image.specs.StateBytes.{saved_bytes, saved_parts}
 use Rattle.suspend_image.specs.Words.{word_bytes}
 use Rattle.order_model.specs.Moves.{Asked, Bound, Point, Unbounded, UpTo}
 use Rattle.order_model.specs.Nodes.{node_of, set_aside}
-use Rattle.order_search.specs.Keys.{IsToldOf, came_bytes, has_bound, node_bytes}
+use Rattle.order_search.specs.Keys.{IsToldOf, came_bytes, node_bytes}
 
 abbrev cursor : List ℕ
 cursor = 2 ∷ 0 ∷ 0 ∷ 0 ∷ 1 ∷ 0 ∷ 0 ∷ 0 ∷ []

@@ -7,13 +7,13 @@ use Rattle.machine_laws.specs.Reserved.{IsReservedByThread}
 use Rattle.machine_model.specs.Runs.Matched.{Matched}
 use Rattle.machine_model.specs.State.Machine.{Machine}
 use Rattle.order_model.proofs.Moving.PlayLemmas.{orders_are_played}
-use Rattle.order_model.proofs.Moving.SeenLemmas.{nodes_are_seen_alike}
+use Rattle.order_model.proofs.Moving.SeenLemmas.{note_alike}
 use Rattle.order_model.specs.declared.moves.Move.{Move}
 use Rattle.order_model.specs.declared.moves.Note.{Note}
 use Rattle.order_model.specs.Moves.{Asked, Bound, Point, Unbounded, UpTo, events_of, leads_by}
 use Rattle.order_model.specs.Nodes.{after, goes_on, node_of, set_aside}
 use Rattle.order_model.specs.Orders.{IsPlayed}
-use Rattle.order_model.specs.Searches.{IsNoteOf, note_of}
+use Rattle.order_model.specs.Searches.{IsNoteOf}
 use Rattle.order_model.proofs.EdgeLemmas.{choices_are_edges}
 use Rattle.order_model.specs.declared.choices.Choice.{Choice}
 use Rattle.order_model.specs.Choosing.{IsSeen, choices_at}
@@ -46,7 +46,7 @@ module _ (asked : Asked) (p node : Point) (at : node_of asked p ≡ node) (choic
   note_right =
       let here : IsNoteOf asked (node_of asked p) note = record {
         goes_on = goes_on_aside asked.bound p.state ∙ seen.goes_on;
-        is = seen.note_is ∙ ap note_of (sym (nodes_are_seen_alike asked p).ending);
+        is = seen.note_is ∙ sym (note_alike asked p);
       } in
       subst (λ (n : Point). IsNoteOf asked n note) at here
 

@@ -1,6 +1,10 @@
 -- What a quest tells of a node is so, and what a search of it says.
-use Rattle.std.proofs.Common.{◌≡◌, ◌+◌, ℕ, List, [], length, Some, Result, Ok, Err, IfOk, All, refl, sym, subst}
+use Rattle.std.proofs.Common.{◌≡◌, ◌≤◌, ◌+◌, ◌-◌, ℕ, List, [], length, Some, Result, Ok, Err, IfOk, All, refl, sym, subst, ◌∙◌}
+use Rattle.std.proofs.lemmas.Map.Text.{is_eq-slice_cmp}
 use Rattle.std.proofs.lemmas.Option.{same_Some}
+use Rattle.std.proofs.lemmas.Slice.Eq.{bytes_eq-Decides}
+use Rattle.std.specs.Ordering.{nat_cmp}
+use Rattle.std.specs.Cmp.Lexicographic.{slice_cmp}
 use Rattle.boot_plan.specs.Lawful.{CanStart, IsLawfulPlan}
 use Rattle.order_model.proofs.Moving.SearchLemmas.{orders_are_told, told_are_orders}
 use Rattle.order_model.specs.declared.moves.Move.{Move}
@@ -15,13 +19,18 @@ use Rattle.order_model.specs.Edges.{AreEdgesBy}
 use Rattle.order_search.proofs.OrderLemmas.{edges_right, note_right}
 use Rattle.order_search.proofs.QuestLemmas.{arrived_matched, path_leads, start_matched}
 use Rattle.order_search.specs.declared.subject.Subject.{Subject}
-use Rattle.order_search.specs.Found.{TellsAllOrders, TellsOrders, telling_of}
-use Rattle.order_search.specs.Quests.{Arrives, IsKeyOf, IsPath, first_node, next_node, searching_of, start_of}
+use Rattle.order_search.specs.Found.{FindsNodes, TellsAllOrders, TellsOrders, finding_of, telling_of}
+use Rattle.order_search.specs.Quests.{Arrives, IsKeyOf, IsPath, Searching, first_node, next_node, searching_of, start_of}
 use Rattle.graph_search.specs.declared.found.Edge.{Edge}
 use Rattle.graph_search.specs.declared.space.Successor.{Successor}
 use Rattle.graph_search.specs.Edges.{AreEdges}
 use Rattle.graph_search.specs.Graph.{node_by}
-use Rattle.graph_search.specs.Told.{TellsAll}
+use Rattle.graph_search.proofs.MeetLemmas.{is_equal}
+use Rattle.graph_search.specs.declared.found.Cut.TheVariants.{Nodes}
+use Rattle.graph_search.specs.declared.found.Extent.TheVariants.{Cut}
+use Rattle.graph_search.specs.declared.found.Found.{Found}
+use Rattle.graph_search.specs.Told.{KeysAgree, TellsAll, TellsOnce}
+use Rattle.order_search.specs.declared.quest.OrderFault.{OrderFault}
 
 -- ---- the start
 
@@ -34,6 +43,11 @@ pub start_key : (s : Subject) (here : Point) (key : List ℕ) → Arrives (searc
 unfolding leads_by
 start_key s here key arrives is =
     subst (λ (p : Point). IsKeyOf (searching_of s) (node_of (asked_of s.orders) p) key) (sym (same_Some (start_of s) here arrives)) is
+
+-- a node has one key
+pub keys_agree : (q : Searching) → KeysAgree (IsKeyOf q) (slice_cmp nat_cmp)
+keys_agree q node j k a b =
+    is_equal (slice_cmp nat_cmp j k) (is_eq-slice_cmp j k ∙ (bytes_eq-Decides j k).1 (a ∙ sym b))
 
 module _ (s : Subject) (lawful : IsLawfulPlan (length s.file.items) s.plan) (can_start : All CanStart s.plan.procs) where
   -- ---- a node
@@ -67,6 +81,21 @@ module _ (s : Subject) (lawful : IsLawfulPlan (length s.file.items) s.plan) (can
   whole_orders edges notes sound all followed order last leads =
       orders_are_told (telling_of (searching_of s) edges notes) order last (start_matched s lawful can_start) sound
       (record { all = all; followed = followed }) leads
+
+  pub finds : (limit : ℕ) (r : Result (Found Move Note) OrderFault)
+      → IfOk r (λ found. IsSound (telling_of (searching_of s) found.edges.items found.notes.items))
+      → IfOk r (λ found. KeysAgree (IsKeyOf (searching_of s)) (slice_cmp nat_cmp)
+      → TellsOnce (next_node (searching_of s)) (first_node (searching_of s)) found.edges.items)
+      → IfOk r (λ found. length found.edges.items ≤ limit - 1) → IfOk r (λ found. found.extent ≡ Cut Nodes → limit ≤ length found.edges.items + 1)
+      → IfOk r (λ found. FindsNodes limit (finding_of s found))
+  finds limit (Ok found) sound once within cut = record {
+    orders = sound_orders found.edges.items found.notes.items sound;
+    found = sound;
+    once = once (keys_agree (searching_of s));
+    within = within;
+    cut = cut;
+  }
+  finds limit (Err fault) sound once within cut = tt
 
 -- ---- answers
 

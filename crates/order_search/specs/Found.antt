@@ -1,13 +1,18 @@
 -- What a search of orders says.
-use Rattle.std.specs.Prelude.{◌≡◌, ◌≤◌, ℕ, List, length, Some}
+use Rattle.std.specs.Prelude.{◌≡◌, ◌≤◌, ◌+◌, ◌-◌, ℕ, List, length, Some}
 use Rattle.std.specs.declared.cmp.Ordering.{Ordering}
 use Rattle.order_model.specs.declared.moves.Move.{Move}
 use Rattle.order_model.specs.declared.moves.Note.{Note}
 use Rattle.order_model.specs.Moves.{Point, leads_by}
-use Rattle.order_model.specs.Searches.{IsPointTold, IsToldOrder, Telling}
-use Rattle.order_search.specs.Quests.{IsKeyOf, Searching, first_node, next_node}
+use Rattle.order_model.specs.Searches.{IsPointTold, IsSound, IsToldOrder, Telling}
+use Rattle.order_search.specs.Quests.{IsKeyOf, Searching, first_node, next_node, searching_of}
+use Rattle.order_search.specs.declared.subject.Subject.{Subject}
+use Rattle.graph_search.specs.declared.found.Cut.TheVariants.{Nodes}
+use Rattle.graph_search.specs.declared.found.Extent.{Extent}
+use Rattle.graph_search.specs.declared.found.Extent.TheVariants.{Cut, Whole}
+use Rattle.graph_search.specs.declared.found.Found.{Found}
 use Rattle.graph_search.specs.declared.found.Edge.{Edge}
-use Rattle.graph_search.specs.Told.{KeysTell}
+use Rattle.graph_search.specs.Told.{KeysTell, TellsOnce}
 
 abbrev pub telling_of : Searching → List (Edge Move) → List Note → Telling
 telling_of q edges notes = record { asked = q.asked; start = q.start; edges = edges; notes = notes }
@@ -23,3 +28,31 @@ TellsOrders t = (number : ℕ) → number ≤ length t.edges → IsToldOrder t n
 -- **Whole**: each order leads to a point whose node is told, by no longer order, and noted where it ends.
 abbrev pub TellsAllOrders : Telling → Type 0
 TellsAllOrders t = (order : List Move) (last : Point) → leads_by t.asked t.start order ≡ Some last → IsPointTold t last (length order)
+
+-- ---- what a search found
+
+-- what was searched, the nodes that were found, by the edges to them and with the notes of the first ones, and whether they are all
+pub record Finding : Type 0 where
+  pub searched : Subject
+  pub edges : List (Edge Move)
+  pub notes : List Note
+  pub extent : Extent
+
+abbrev pub finding_of : Subject → Found Move Note → Finding
+finding_of s found = record { searched = s; edges = found.edges.items; notes = found.notes.items; extent = found.extent }
+
+abbrev pub telling_in : Finding → Telling
+telling_in f = telling_of (searching_of f.searched) f.edges f.notes
+
+-- **What was found is so.** Each node is one to which its order leads, with its note, and none is told twice; there are at most so many; and
+-- nodes are left out for their number only where there are so many.
+pub record FindsNodes (limit : ℕ) (f : Finding) : Type 0 where
+  pub orders : TellsOrders (telling_in f)
+  pub found : IsSound (telling_in f)
+  pub once : TellsOnce (next_node (searching_of f.searched)) (first_node (searching_of f.searched)) f.edges
+  pub within : length f.edges ≤ limit - 1
+  pub cut : f.extent ≡ Cut Nodes → limit ≤ length f.edges + 1
+
+-- **A whole search finds all**, if no two nodes have one digest.
+abbrev pub FindsAllOrders : (List ℕ → List ℕ → Ordering) → Finding → Type 0
+FindsAllOrders cmp f = f.extent ≡ Whole → DigestsTell (searching_of f.searched) cmp → TellsAllOrders (telling_in f)

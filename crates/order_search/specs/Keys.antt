@@ -3,7 +3,6 @@ use Rattle.std.specs.Prelude.{◌≡◌, ◌+◌, ℕ, zero, suc, Bool, true, fa
 use Rattle.sha2.specs.Sha256.{sha256}
 use Rattle.suspend_image.specs.StateBytes.{saved_bytes, saved_parts}
 use Rattle.order_model.specs.Moves.{Asked, Bound, Point, Unbounded, UpTo}
-use Rattle.order_model.specs.Nodes.{node_of}
 
 -- of each of the first n events in their order whether it came
 unfoldable pub came_list : ℕ → (ℕ → Bool) → List Bool

@@ -23,9 +23,13 @@ pub record Searching : Type 0 where
 abbrev pub point_after : History → Point
 point_after h = record { state = h.machine; console = bytes_of h.records; came = λ k. false }
 
--- the events of the file are played from the start of the image
+-- the events before are played from the start of the image
+abbrev pub history_before : Subject → History
+history_before s = run_of STEP_LIMIT (start s.plan s.file.items) s.before.items
+
+-- and orders begin behind them
 unfoldable pub start_of : Subject → Point
-start_of s = point_after (run_of STEP_LIMIT (start s.plan s.file.items) s.before.items)
+start_of s = point_after (history_before s)
 
 abbrev pub searching_of : Subject → Searching
 searching_of s = record { asked = asked_of s.orders; start = start_of s }

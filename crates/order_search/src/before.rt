@@ -1,10 +1,10 @@
 //! The events that are played before orders begin.
 
-ghost use Rattle.std.specs.Prelude.{◌≡◌, ◌≤◌, ◌∷◌, [], IfOk, OnOk, Some};
+ghost use Rattle.std.specs.Prelude.{◌≡◌, ◌≤◌, ◌∷◌, [], IfErr, IfOk, OnOk, Some};
 ghost use Rattle.xk_base.specs.declared.limits.TheConstants.{STEP_LIMIT};
-ghost use Rattle.order_model.specs.Moves.{bytes_of};
 ghost use Rattle.event_player.specs.Gathering.{Text};
 ghost use Rattle.event_player.specs.History.{run_of};
+ghost use Rattle.order_search.specs.Before.{IsPlayedWhole, Unplayed};
 ghost use Rattle.event_player.specs.Standing.{Begins, stand};
 ghost use Rattle.machine_model.specs.State.Machine.{Machine};
 ghost use Rattle.xk_kernel.specs.Knowing.{IsTrusted};
@@ -64,8 +64,11 @@ pub(crate) fn play_before(
     requires trusted { IsTrusted ⟦<SureStore as SwapStore>⟧ kernel.old }
     requires within { (machine_of ⟦<SureStore as SwapStore>⟧.held kernel.old).steps ≤ STEP_LIMIT }
     ensures plays { let S = ⟦<SureStore as SwapStore>⟧ in
-        (m : Machine) → ((text : Text) → Begins m (stand S kernel.old text)) → let h = run_of STEP_LIMIT m events.now in
-        IfOk result (λ console. (machine_of S.held kernel.new ≡ h.machine) × (console.items ≡ bytes_of h.records)) }
+        (m : Machine) → ((text : Text) → Begins m (stand S kernel.old text))
+        → IfOk result (λ console. IsPlayedWhole (run_of STEP_LIMIT m events.now) (machine_of S.held kernel.new) console.items) }
+    ensures fault { let S = ⟦<SureStore as SwapStore>⟧ in
+        (m : Machine) → ((text : Text) → Begins m (stand S kernel.old text))
+        → IfErr result (Unplayed (run_of STEP_LIMIT m events.now).ending) }
     ensures sound { IsSound ⟦<SureStore as SwapStore>⟧ kernel.new }
     ensures usable { OnOk result (IsUsable kernel.new) }
     ensures keeps { Keeps ⟦<SureStore as SwapStore>⟧ kernel.old kernel.new }

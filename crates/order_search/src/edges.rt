@@ -1,10 +1,12 @@
 //! The edges that leave a node.
 
-ghost use Rattle.std.specs.Prelude.{◌≡◌, ◌≤◌, IfOk, OnOk, Some, length, map};
+ghost use Rattle.std.specs.Prelude.{◌≡◌, ◌≤◌, IfErr, IfOk, OnOk, Some, length, map};
 ghost use Rattle.suspend_image.specs.Sheets.{room_for};
 ghost use Rattle.xk_kernel.specs.Knowing.{IsTrusted};
 ghost use Rattle.xk_kernel.specs.Sound.{IsSound, IsUsable, Keeps};
 ghost use Rattle.xk_kernel.specs.State.{machine_of};
+ghost use Rattle.graph_search.specs.Edges.{HasCause};
+ghost use Rattle.order_search.specs.Faults.{IsFault, IsMemory, IsUnchosen};
 ghost use Rattle.order_search.specs.Keys.{came_byte};
 ghost use Rattle.order_model.specs.Moves.{Point, leads};
 ghost use Rattle.order_model.specs.Nodes.{node_of};
@@ -45,6 +47,7 @@ fn choose(orders: &Orders, run: &mut Run, choice: Choice) -> Result<Move, Unansw
         let new = point_of ⟦<SureStore as SwapStore>⟧ run.new.kernel run.new.trail in
         IfOk result (λ next. leads (asked_of orders.now) old next ≡ Some new) }
     ensures choice { IfOk result (λ next. choice_of next ≡ choice) }
+    ensures fault { IfErr result (IsUnchosen (asked_of orders.now) (point_of ⟦<SureStore as SwapStore>⟧ run.old.kernel run.old.trail)) }
     ensures came { OnOk result (length run.new.trail.came.items ≡ length run.old.trail.came.items) }
     ensures sound { IsSound ⟦<SureStore as SwapStore>⟧ run.new.kernel }
     ensures usable { OnOk result (IsUsable run.new.kernel) }
@@ -76,6 +79,7 @@ impl Quest {
             room_for m.processes m.capacity ≤ self.old.sheet.room }
         ensures key { let q = searching_of self.old.subject in
             IfOk result (λ key. IsKeyOf q (node_of q.asked (point_of ⟦<SureStore as SwapStore>⟧ run.old.kernel run.old.trail)) key) }
+        ensures fault { IfErr result IsMemory }
         ensures subject { self.new.subject ≡ self.old.subject }
         ensures sound { IsSound ⟦<SureStore as SwapStore>⟧ run.new.kernel }
     {
@@ -101,6 +105,7 @@ impl Quest {
         ensures edge { let q = searching_of self.old.subject in
             (p : Point) → Arrives q path.now p → IfOk result (λ edge. IsEdge (IsKeyOf q) q.asked p edge) }
         ensures choice { IfOk result (λ edge. choice_of edge.label ≡ choice) }
+        ensures fault { IfErr result (HasCause (IsFault self.old.subject)) }
         ensures subject { self.new.subject ≡ self.old.subject }
     {
         let mut run = self.arrive(path)?;
@@ -130,6 +135,7 @@ impl Quest {
             (p : Point) → Arrives q path.now p → choices.now ≡ choices_at q.asked p }
         ensures edges { let q = searching_of self.old.subject in
             (p : Point) → Arrives q path.now p → IfOk result (λ edges. AreEdgesBy (IsKeyOf q) q.asked p choices.now edges.items) }
+        ensures fault { IfErr result (HasCause (IsFault self.old.subject)) }
         ensures subject { self.new.subject ≡ self.old.subject }
     {
         let mut edges = Vec::new(self.alloc);

@@ -6,6 +6,7 @@ mod before;
 mod console;
 mod edges;
 mod keys;
+mod laws;
 mod quest;
 mod runs;
 mod searching;
@@ -14,6 +15,7 @@ mod standing;
 mod subject;
 
 pub use keys::node_key;
+pub use laws::orders_are_replayed;
 pub use quest::{OrderFault, Quest};
 pub use searching::search_orders;
 pub use standing::Stand;

@@ -4,11 +4,11 @@ ghost use Rattle.std.specs.Prelude.{◌≡◌, ◌≤◌, ◌<◌, ◌^◌, All,
 ghost use Rattle.boot_plan.specs.Capacity.{capacity};
 ghost use Rattle.boot_plan.specs.Lawful.{CanStart, IsLawfulPlan};
 ghost use Rattle.suspend_image.specs.Sheets.{room_for};
+ghost use Rattle.order_search.specs.Faults.{IsMemory, IsUnplayed};
 
 use crate::subject::Subject;
 use boot_plan::cap;
 use graph_search::Unanswered;
-use order_model::Choice;
 use order_player::MoveFault;
 use std::alloc::{AllocError, Global};
 use suspend_image::Sheet;
@@ -32,8 +32,6 @@ pub struct Quest {
     pub(crate) subject: Subject,
     // Where states are written.
     pub(crate) sheet: Sheet,
-    // How many slices were tried.
-    pub(crate) slices: u64,
     ghost lawful: { IsLawfulPlan (length subject.file.items) subject.plan },
     ghost can_start: { All CanStart subject.plan.procs },
     ghost few: { length subject.orders.once.items < 2 ^ 32 },
@@ -55,7 +53,6 @@ impl Quest {
             alloc,
             subject,
             sheet,
-            slices: 0,
         })
     }
 
@@ -65,23 +62,13 @@ impl Quest {
             ≡ record self.old.subject { orders = record self.old.subject.orders { bound = Some bound } } }
     {
         self.subject.orders.bound = Some(bound);
-        self.slices = 0;
     }
 
-    /// The slices among these choices were tried.
-    pub(crate) fn count(&mut self, choices: &[Choice])
-        ensures { self.new.subject ≡ self.old.subject }
+    /// How many steps an order has at most, where steps count.
+    pub fn bound(&self) -> Option<u32>
+        ensures { result ≡ self.now.subject.orders.bound }
     {
-        let turns = choices
-            .iter()
-            .filter(|choice| matches!(choice, Choice::Goes(_)))
-            .count();
-        self.slices = self.slices.saturating_add(turns as u64);
-    }
-
-    /// How many slices were tried.
-    pub fn slices(&self) -> u64 {
-        self.slices
+        self.subject.orders.bound
     }
 
     /// The bytes of the event file that is played before.
@@ -100,12 +87,16 @@ impl Quest {
 }
 
 /// Want of memory.
-pub(crate) fn no_memory() -> Unanswered<OrderFault> {
+pub(crate) fn no_memory() -> Unanswered<OrderFault>
+    ensures { IsMemory result }
+{
     Unanswered::Memory(AllocError)
 }
 
 /// Why a move wasn't played. The store doesn't fail.
-pub(crate) fn unplayed(fault: MoveFault) -> Unanswered<OrderFault> {
+pub(crate) fn unplayed(fault: MoveFault) -> Unanswered<OrderFault>
+    ensures { IsUnplayed fault result }
+{
     match fault {
         MoveFault::Steps => Unanswered::Fault(OrderFault::Steps),
         MoveFault::Memory | MoveFault::Swap => no_memory(),

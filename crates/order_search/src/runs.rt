@@ -1,12 +1,14 @@
 //! Orders are played from the start of an image.
 
-ghost use Rattle.std.specs.Prelude.{◌≡◌, ◌≤◌, IfOk, OnOk, length};
+ghost use Rattle.std.specs.Prelude.{◌≡◌, ◌≤◌, IfErr, IfOk, OnOk, length};
 ghost use Rattle.suspend_image.specs.Sheets.{room_for};
 ghost use Rattle.xk_kernel.specs.Knowing.{IsTrusted};
 ghost use Rattle.xk_kernel.specs.Sound.{IsSound, IsUsable, Keeps};
 ghost use Rattle.xk_kernel.specs.State.{machine_of};
 ghost use Rattle.order_player.specs.Runs.{point_of};
+ghost use Rattle.graph_search.specs.Edges.{HasCause};
 ghost use Rattle.order_search.specs.Booted.{IsBooted};
+ghost use Rattle.order_search.specs.Faults.{IsBegun, IsMemory, IsRunFault};
 ghost use Rattle.order_search.specs.Quests.{Arrives, IsPath, searching_of, start_of};
 
 use crate::before::play_before;
@@ -40,6 +42,7 @@ impl Quest {
         ensures sound { IfOk result (λ kernel. IsSound ⟦<SureStore as SwapStore>⟧ kernel) }
         ensures usable { IfOk result (λ kernel. IsUsable kernel) }
         ensures trusted { IfOk result (λ kernel. IsTrusted ⟦<SureStore as SwapStore>⟧ kernel) }
+        ensures fault { IfErr result IsMemory }
         ensures room { IfOk result (λ kernel. let m = machine_of ⟦<SureStore as SwapStore>⟧.held kernel in
             room_for m.processes m.capacity ≤ self.now.sheet.room) }
     {
@@ -59,6 +62,8 @@ impl Quest {
         requires sound { IsSound ⟦<SureStore as SwapStore>⟧ kernel.old }
         requires usable { IsUsable kernel.old }
         requires trusted { IsTrusted ⟦<SureStore as SwapStore>⟧ kernel.old }
+        ensures begun { OnOk result (IsBegun self.now.subject) }
+        ensures fault { IfErr result (HasCause (IsRunFault self.now.subject)) }
         ensures point { IfOk result (λ trail. point_of ⟦<SureStore as SwapStore>⟧ kernel.new trail ≡ start_of self.now.subject) }
         ensures came { IfOk result (λ trail. length trail.came.items ≡ length self.now.subject.orders.once.items) }
         ensures sound { IsSound ⟦<SureStore as SwapStore>⟧ kernel.new }
@@ -85,6 +90,8 @@ impl Quest {
         requires trusted { IsTrusted ⟦<SureStore as SwapStore>⟧ kernel.old }
         ensures arrives { let q = searching_of self.now.subject in
             IfOk result (λ trail. Arrives q order.now (point_of ⟦<SureStore as SwapStore>⟧ kernel.new trail)) }
+        ensures begun { OnOk result (IsBegun self.now.subject) }
+        ensures fault { IfErr result (HasCause (IsRunFault self.now.subject)) }
         ensures came { IfOk result (λ trail. length trail.came.items ≡ length self.now.subject.orders.once.items) }
         ensures sound { IsSound ⟦<SureStore as SwapStore>⟧ kernel.new }
         ensures usable { OnOk result (IsUsable kernel.new) }
@@ -102,6 +109,8 @@ impl Quest {
         requires path { IsPath (searching_of self.now.subject) order.now }
         ensures arrives { let q = searching_of self.now.subject in
             IfOk result (λ run. Arrives q order.now (point_of ⟦<SureStore as SwapStore>⟧ run.kernel run.trail)) }
+        ensures begun { OnOk result (IsBegun self.now.subject) }
+        ensures fault { IfErr result (HasCause (IsRunFault self.now.subject)) }
         ensures came { IfOk result (λ run. length run.trail.came.items ≡ length self.now.subject.orders.once.items) }
         ensures sound { IfOk result (λ run. IsSound ⟦<SureStore as SwapStore>⟧ run.kernel) }
         ensures usable { IfOk result (λ run. IsUsable run.kernel) }
@@ -117,5 +126,15 @@ impl Quest {
                 Err(fault)
             }
         }
+    }
+
+    /// The events before are played, and no order yet.
+    pub fn begin_alone(&self) -> Result<(), Unanswered<OrderFault>>
+        ensures begun { OnOk result (IsBegun self.now.subject) }
+        ensures fault { IfErr result (HasCause (IsRunFault self.now.subject)) }
+    {
+        let run = self.arrive(&[])?;
+        run.close();
+        Ok(())
     }
 }

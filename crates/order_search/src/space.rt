@@ -16,6 +16,7 @@ impl Space for Quest {
     ghost use Rattle.order_model.specs.Moves.{Point};
     ghost use Rattle.order_model.specs.Searches.{IsNoteOf};
     ghost use Rattle.order_model.specs.Asking.{asked_of};
+    ghost use Rattle.order_search.specs.Faults.{IsFault};
     ghost use Rattle.order_search.specs.Quests.{IsKeyOf, first_node, next_node, searching_of};
     ghost use Rattle.order_search.specs.declared.subject.Subject.{Subject};
 
@@ -33,6 +34,8 @@ impl Space for Quest {
 
     ghost IsNote = { λ subject. IsNoteOf (asked_of subject.orders) };
 
+    ghost IsFault = { IsFault };
+
     fn first(&mut self) -> Result<[u8; 32], Unanswered<OrderFault>> {
         let mut run = self.arrive(&[])?;
         let key = self.key(&mut run);
@@ -46,7 +49,6 @@ impl Space for Quest {
     ) -> Result<Followed<Move, [u8; 32], Note>, Unanswered<OrderFault>> {
         let sight = self.look(path)?;
         let edges = self.edges(path, &sight.choices)?;
-        self.count(&sight.choices);
         Ok(Followed {
             edges,
             note: sight.note,

@@ -1,6 +1,6 @@
 //! What is seen where an order ends.
 
-ghost use Rattle.std.specs.Prelude.{◌≡◌, ◌≤◌, ℕ, IfOk, List, length};
+ghost use Rattle.std.specs.Prelude.{◌≡◌, ◌≤◌, ℕ, IfErr, IfOk, List, length};
 ghost use Rattle.machine_laws.specs.Reserved.{IsReservedByThread};
 ghost use Rattle.snapshot_rows.specs.Machines.{machine_of as machine_in};
 ghost use Rattle.suspend_image.specs.Sheets.{room_for};
@@ -10,6 +10,8 @@ ghost use Rattle.xk_kernel.specs.Sound.{IsSound, IsUsable};
 ghost use Rattle.xk_kernel.specs.State.{machine_of};
 ghost use Rattle.order_model.specs.Moves.{Point};
 ghost use Rattle.order_model.specs.Choosing.{IsSeen, IsStand};
+ghost use Rattle.graph_search.specs.Edges.{HasCause};
+ghost use Rattle.order_search.specs.Faults.{IsFault, IsMemory, IsRunFault};
 ghost use Rattle.order_search.specs.Quests.{Arrives, IsPath, searching_of};
 ghost use Rattle.order_search.specs.Rows.{IsRead};
 
@@ -42,6 +44,7 @@ impl Quest {
         ensures rows { IfOk result (λ state. (file : List ℕ)
             × (machine_in file state ≡ machine_of ⟦<SureStore as SwapStore>⟧.held kernel.old)) }
         ensures read { IfOk result IsRead }
+        ensures fault { IfErr result IsMemory }
         ensures few { IfOk result (λ state. state.n ≤ PROCESS_LIMIT) }
         ensures subject { self.new.subject ≡ self.old.subject }
         ensures sound { IsSound ⟦<SureStore as SwapStore>⟧ kernel.new }
@@ -61,6 +64,8 @@ impl Quest {
         ensures stands { let q = searching_of self.old.subject in
             (p : Point) → Arrives q order.now p → IfOk result (λ stand. IsStand p stand.state stand.trail) }
         ensures read { IfOk result (λ stand. IsRead stand.state) }
+        ensures within { IfOk result (λ stand. stand.state.steps ≤ STEP_LIMIT) }
+        ensures fault { IfErr result (HasCause (IsRunFault self.old.subject)) }
         ensures few { IfOk result (λ stand. stand.state.n ≤ PROCESS_LIMIT) }
         ensures came { IfOk result (λ stand. length stand.trail.came.items ≡ length self.old.subject.orders.once.items) }
         ensures subject { self.new.subject ≡ self.old.subject }
@@ -84,6 +89,7 @@ impl Quest {
         requires path { IsPath (searching_of self.old.subject) path.now }
         ensures sight { let q = searching_of self.old.subject in
             (p : Point) → Arrives q path.now p → IfOk result (λ sight. IsSeen q.asked p sight.choices.items sight.note) }
+        ensures fault { IfErr result (HasCause (IsFault self.old.subject)) }
         ensures subject { self.new.subject ≡ self.old.subject }
     {
         let stand = self.stand(path)?;

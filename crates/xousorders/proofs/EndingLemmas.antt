@@ -8,33 +8,34 @@ use Rattle.std.proofs.lemmas.Bool.{false_from_ne_true, false≢true}
 use Rattle.std.proofs.lemmas.Bool.Decides.{Decides-eqb}
 use Rattle.std.proofs.lemmas.List.{append-nil, length-append, map-append}
 use Rattle.std.proofs.lemmas.List.Elements.{All-append, All-cons, All-nil, filter-append}
-use Rattle.std.proofs.lemmas.Option.{none-some, same_Some, slice_get_read, slice_get_within}
+use Rattle.std.proofs.lemmas.Option.{get_or_from_slice_get, none-some, same_Some, slice_get_read, slice_get_within}
 use Rattle.std.proofs.lemmas.Slice.Eq.{bytes_eq-Decides}
 use Rattle.machine_model.specs.Runs.Matched.{Matched}
 use Rattle.order_model.proofs.Moving.SearchLemmas.{paths_are_orders}
 use Rattle.order_model.proofs.Moving.SeenLemmas.{nodes_are_seen_alike}
 use Rattle.order_model.specs.declared.moves.Move.{Move}
 use Rattle.order_model.specs.declared.moves.Note.{Note}
-use Rattle.order_model.specs.declared.moves.Note.TheVariants.{Ending as IsEnd, Inner}
-use Rattle.order_model.specs.Endings.{seen_of}
+use Rattle.order_model.specs.Endings.{is_ending, seen_of}
 use Rattle.order_model.specs.Moves.{Point, leads_by}
 use Rattle.order_model.specs.Nodes.{after, node_of}
-use Rattle.order_model.specs.Searches.{IsSound, IsToldOrder, Telling, note_of}
+use Rattle.order_model.specs.Searches.{IsPointTold, IsSound, IsToldOrder, Telling, note_of}
 use Rattle.order_search.specs.declared.subject.Subject.{Subject}
-use Rattle.order_search.specs.Found.{DigestsTell, TellsAllOrders, TellsOrders, telling_of}
-use Rattle.order_search.specs.Quests.{searching_of, start_of}
+use Rattle.order_search.specs.Found.{FindsAllOrders, FindsNodes, TellsAllOrders, TellsOrders, finding_of, telling_in}
+use Rattle.order_search.specs.Quests.{start_of}
 use Rattle.order_text.specs.Texts.{seen_text}
-use Rattle.graph_search.specs.declared.found.Edge.{Edge}
 use Rattle.graph_search.proofs.ListLemmas.{IsBehind, front_or_behind, slice_get-behind, slice_get-front}
+use Rattle.graph_search.proofs.PathLemmas.{later_no_shorter}
 use Rattle.graph_search.specs.Paths.{labels_to}
 use Rattle.graph_search.specs.Told.{IsFound}
 use Rattle.xk_base.proofs.CountingLemmas.{count_below-none}
 use Rattle.xk_base.specs.Tables.Counting.{count_below, listed_below}
-use Rattle.xousorders.specs.Endings.{Adds, AreDifferent, AreEndings, IsAt, IsEndingOf, IsLook, IsNew, Lists, NoneIs, TellsAllEndings, TellsEndings}
-use Rattle.xousorders.specs.Endings.{ends_at, is_end, looks_at, node_text, nodes_like}
+use Rattle.xousorders.specs.Calls.{SaysSo, report_of}
+use Rattle.xousorders.specs.Endings.{Adds, AreDifferent, AreEndings, AreShortest, IsAt, IsEndingOf, IsFirst, IsLook, IsNew, Lists, NoneIs, TellsAllEndings, TellsEndings}
+use Rattle.xousorders.specs.Endings.{ends_at, looks_at, node_text, nodes_like}
 use Rattle.xousorders.specs.declared.endings.Ending.{Ending}
 use Rattle.xousorders.specs.declared.endings.Endings.{Endings}
 use Rattle.xousorders.specs.declared.endings.Look.{Look}
+use Rattle.xousorders.specs.declared.run.Told.{Told}
 
 -- ---- tests
 
@@ -47,10 +48,15 @@ both : (a b : Bool) → (a && b) ≡ true → (a ≡ true) × (b ≡ true)
 both true b e = (refl, e)
 both false b e = absurd (false≢true e)
 
-ended : (note : Option Note) → option_map_or is_end note false ≡ true → note ≡ Some IsEnd
+-- there is a note that orders end
+record HasEnd (o : Option Note) : Type 0 where
+  note : Note
+  is : o ≡ Some note
+  ends : note.ends ≡ true
+
+ended : (o : Option Note) → option_map_or (λ (note : Note). note.ends) o false ≡ true → HasEnd o
 ended None e = absurd (false≢true e)
-ended (Some Inner) e = absurd (false≢true e)
-ended (Some IsEnd) e = refl
+ended (Some note) e = record { note = note; is = refl; ends = e }
 
 -- ---- counts go on
 
@@ -163,6 +169,7 @@ module _ (t : Telling) where
   unfolding listed_below
   no_endings endings none no_looks = record {
     each = subst (All (IsEndingOf t)) (sym none) (All-nil (IsEndingOf t));
+    first = λ place ending at. absurd (none-some ending (ap (λ (es : List Ending). slice_get es place) (sym none) ∙ at));
     different = λ j k text at_j at_k. absurd (nothing_at endings.list.items j text none at_j);
     all = λ node low ends. absurd (let no : ⊥ = omega (arith, low) in no);
     nodes = ap (λ (ls : List Look). map (λ (l : Look). l.node) ls) no_looks;
@@ -181,12 +188,12 @@ module _ (t : Telling) where
 
   -- where no ending looks so, no node does
   none_like : (n : ℕ) (text : List ℕ) (endings : Endings)
-      → ((node : ℕ) → node < n → slice_get t.notes node ≡ Some IsEnd → IsLook t endings node) → NoneIs endings.list.items text
+      → ((node : ℕ) → node < n → ends_at t node ≡ true → IsLook t endings node) → NoneIs endings.list.items text
       → nodes_like t n text ≡ 0
   unfolding nodes_like
   none_like n text endings all none = count_below-none n (is_like text) (λ k low. false_from_ne_true (is_like text k) (λ e.
       let parts = both (ends_at t k) (bytes_eq (node_text t k) text) e in
-      let look = all k low (ended (slice_get t.notes k) parts.0) in
+      let look = all k low parts.0 in
       none look.look.ending
       (subst (IsAt endings.list.items look.look.ending) ((bytes_eq-Decides (node_text t k) text).0 parts.1) look.alike)))
 
@@ -311,11 +318,30 @@ module _ (t : Telling) where
   split : (node other : ℕ) → other < node + 1 → (other < node) ⊎ (node ≡ other)
   split node other low = grind arith
 
-  pub node_told : (node : ℕ) (order : List Move) (text : List ℕ) (old new : Endings) → slice_get t.notes node ≡ Some IsEnd
+  -- the first that looks so is the first of more nodes too
+  first_on : (node : ℕ) (ending : Ending) → IsFirst t node ending → IsFirst t (node + 1) ending
+  first_on node ending first = record {
+    low = (let low = first.low in omega (arith, low));
+    least = λ other low ends same. go other ends same (split node other low);
+  }
+    where
+      go : (other : ℕ) → ends_at t other ≡ true → node_text t other ≡ ending.seen.items → (other < node) ⊎ (node ≡ other) → ending.first ≤ other
+      go other ends same (inl less) = first.least other less ends same
+      go other ends same (inr is) = let low = first.low in omega (arith, low, is)
+
+  not_before : (node other first : ℕ) → (other < node → ⊥) → other < node + 1 → first ≡ node → first ≤ other
+  not_before node other first never low is = go (split node other low)
+    where
+      go : (other < node) ⊎ (node ≡ other) → first ≤ other
+      go (inl less) = absurd (never less)
+      go (inr same) = omega (arith, same, is)
+
+  pub node_told : (node : ℕ) (order : List Move) (text : List ℕ) (old new : Endings) → ends_at t node ≡ true
       → order ≡ labels_to t.edges node → text ≡ node_text t node → Adds node order text old new → AreEndings t node old
       → AreEndings t (node + 1) new
   node_told node order text old new ends labels shown adds are = record {
     each = go adds.list;
+    first = λ place ending at. firsts adds.list place ending at;
     different = differ node order text old new adds are.different;
     all = λ other low at. by_place other at (split node other low);
     nodes = nodes_told node order text old new adds here shown are;
@@ -324,26 +350,59 @@ module _ (t : Telling) where
   }
     where
       here : ends_at t node ≡ true
-      here = ap (λ (o : Option Note). option_map_or is_end o false) ends
+      here = ends
+
+      on : (ending : Ending) → IsFirst t node ending → IsFirst t (node + 1) ending
+      on ending first = first_on node ending first
+
+      -- the new ending is of this node, as no earlier one looks so
+      last : (more : IsNew node order text old.list.items new.list.items) → IsFirst t (node + 1) more.ending
+      last more = record {
+        low = (let e = more.first in omega (arith, e));
+        least = λ other low at same.
+            (let e = more.first in
+            let never : other < node → ⊥ = λ before.
+            (let look = are.all other before at in
+            more.none look.look.ending
+            (subst (IsAt old.list.items look.look.ending) (same ∙ more.alike) look.alike)) in
+            not_before node other more.ending.first never low e);
+      }
+
+      firsts : Lists node order text old.list.items new.list.items → (place : ℕ) (ending : Ending)
+          → slice_get new.list.items place ≡ Some ending → IsFirst t (node + 1) ending
+      firsts (inl same) place ending at =
+          on ending (are.first place ending (ap (λ (es : List Ending). slice_get es place) (sym same) ∙ at))
+      firsts (inr more) place ending at =
+          by (front_or_behind old.list.items (more.ending ∷ []) place ending (ap (λ (es : List Ending). slice_get es place) (sym more.list) ∙ at))
+        where
+          only : (k : ℕ) → slice_get (more.ending ∷ []) k ≡ Some ending → IsFirst t (node + 1) ending
+          only zero is = subst (IsFirst t (node + 1)) (same_Some more.ending ending is) (last more)
+          only (suc k) is = absurd (none-some ending is)
+
+          by : (slice_get old.list.items place ≡ Some ending) ⊎ IsBehind old.list.items (more.ending ∷ []) place ending
+              → IsFirst t (node + 1) ending
+          by (inl there) = on ending (are.first place ending there)
+          by (inr behind) = only behind.place behind.is
 
       go : Lists node order text old.list.items new.list.items → All (IsEndingOf t) new.list.items
       go (inl same) = subst (All (IsEndingOf t)) (sym same) are.each
       go (inr more) =
           let is : IsEndingOf t more.ending = record {
-            ends = ap (λ (n : ℕ). slice_get t.notes n) more.first ∙ ends;
+            ends = ap (ends_at t) more.first ∙ ends;
             order = more.order_is ∙ (labels ∙ ap (labels_to t.edges) (sym more.first));
             seen = more.alike ∙ (shown ∙ ap (node_text t) (sym more.first));
           } in
           subst (All (IsEndingOf t)) (sym more.list)
           (All-append (IsEndingOf t) old.list.items (more.ending ∷ []) are.each (All-cons (IsEndingOf t) more.ending [] is (All-nil (IsEndingOf t))))
 
-      by_place : (other : ℕ) → slice_get t.notes other ≡ Some IsEnd → (other < node) ⊎ (node ≡ other) → IsLook t new other
+      by_place : (other : ℕ) → ends_at t other ≡ true → (other < node) ⊎ (node ≡ other) → IsLook t new other
       by_place other at (inl low) = look_kept node order text old new adds other (are.all other low at)
       by_place other at (inr same) = subst (IsLook t new) same (last_look node order text old new adds shown)
 
-  pub node_passed : (node : ℕ) (endings : Endings) → slice_get t.notes node ≡ Some Inner → AreEndings t node endings → AreEndings t (node + 1) endings
+  pub node_passed : (node : ℕ) (endings : Endings) → ends_at t node ≡ false → AreEndings t node endings → AreEndings t (node + 1) endings
   node_passed node endings inner are = record {
     each = are.each;
+    first = λ place ending at. first_on node ending (are.first place ending at);
     different = are.different;
     all = λ other low at. by_place other at (split node other low);
     nodes = are.nodes
@@ -354,23 +413,18 @@ module _ (t : Telling) where
   }
     where
       not_here : ends_at t node ≡ false
-      not_here = ap (λ (o : Option Note). option_map_or is_end o false) inner
+      not_here = inner
 
       same_count : (text : List ℕ) → nodes_like t node text ≡ nodes_like t (node + 1) text
       same_count text =
           let no : is_like text node ≡ false = ap (λ (b : Bool). b && bytes_eq (node_text t node) text) not_here in
           sym (none_more (nodes_like t node text) (is_like text node) no) ∙ sym (nodes_on node text)
 
-      by_place : (other : ℕ) → slice_get t.notes other ≡ Some IsEnd → (other < node) ⊎ (node ≡ other) → IsLook t endings other
+      by_place : (other : ℕ) → ends_at t other ≡ true → (other < node) ⊎ (node ≡ other) → IsLook t endings other
       by_place other at (inl low) = are.all other low at
-      by_place other at (inr same) =
-          let e : Some Inner ≡ Some IsEnd = sym inner ∙ (ap (λ (n : ℕ). slice_get t.notes n) same ∙ at) in absurd (cc)
+      by_place other at (inr same) = absurd (false≢true (sym inner ∙ (ap (ends_at t) same ∙ at)))
 
   -- ---- what is told of orders
-
-  ending_noted : (b : Bool) → IsEnd ≡ note_of b → b ≡ true
-  ending_noted true e = refl
-  ending_noted false e = absurd (cc)
 
   -- the text of a node is what is seen where its order leads
   pub text_there : (node : ℕ) (p : Point) → leads_by t.asked t.start (labels_to t.edges node) ≡ Some p → node_text t node ≡ seen_text (seen_of p)
@@ -397,13 +451,14 @@ module _ (t : Telling) where
     orders = λ k d low.
         (let ending : Ending = get_or endings.list.items k d in
         let is : IsEndingOf t ending = are.each k d low in
-        let noted : ending.first < length t.notes = slice_get_within t.notes ending.first IsEnd is.ends in
+        let has = ended (slice_get t.notes ending.first) is.ends in
+        let noted : ending.first < length t.notes = slice_get_within t.notes ending.first has.note has.is in
         let few = sound.few in
         let told = tells ending.first (omega (arith, noted, few)) in
         record {
           last = told.last;
           leads = ap (leads_by t.asked t.start) is.order ∙ told.leads;
-          ends = ending_noted _ (told.noted IsEnd is.ends);
+          ends = sym (ap (λ (note : Note). note.ends) (told.noted has.note has.is)) ∙ has.ends;
           seen = is.seen ∙ text_there ending.first told.last told.leads;
         });
     different = are.different;
@@ -411,37 +466,63 @@ module _ (t : Telling) where
     counts = are.counts;
   }
 
-  pub all_told : Matched t.start.state → (endings : Endings) → AreEndings t (length t.notes) endings → TellsAllOrders t → TellsAllEndings t endings
-  all_told matched endings are all order last leads ends =
-      let told = all order last leads in
-      let here : slice_get t.notes told.number ≡ Some IsEnd = told.noted ∙ ap (λ (b : Bool). Some (note_of b)) ends in
-      let look = are.all told.number (slice_get_within t.notes told.number IsEnd here) here in
-      record {
-        node = told.number;
-        found = told.found;
-        look = look;
-        alike = subst (IsAt endings.list.items look.look.ending) (text_alike matched told.number last told.found) look.alike;
-      }
+  module _ (matched : Matched t.start.state) (endings : Endings) (are : AreEndings t (length t.notes) endings) (all : TellsAllOrders t) where
+    -- where an order ends its node is told, and its note says so
+    record IsToldEnd (order : List Move) (last : Point) : Type 0 where
+      told : IsPointTold t last (length order)
+      ends : ends_at t told.number ≡ true
+      low : told.number < length t.notes
 
--- .. also where the search has the same subject then
-pub all_moved : {cmp : List ℕ → List ℕ → Ordering} (s later : Subject) (same : later ≡ s) (edges : List (Edge Move)) (notes : List Note) (endings : Endings)
-    (P : Type 0) → Matched (start_of s).state
-    → (P → DigestsTell (searching_of s) cmp → TellsAllOrders (telling_of (searching_of s) edges notes))
-    → AreEndings (telling_of (searching_of s) edges notes) (length notes) endings → P → DigestsTell (searching_of later) cmp
-    → TellsAllEndings (telling_of (searching_of later) edges notes) endings
-all_moved {cmp = cmp} s later same edges notes endings P matched whole are p =
-    let F : Subject → Type 0 = λ x. DigestsTell (searching_of x) cmp → TellsAllEndings (telling_of (searching_of x) edges notes) endings in
-    let here : F s = λ tell. all_told (telling_of (searching_of s) edges notes) matched endings are (whole p tell) in
-    subst F (sym same) here
+    told_end : (order : List Move) (last : Point) → leads_by t.asked t.start order ≡ Some last → is_ending t.asked last.state ≡ true
+        → IsToldEnd order last
+    told_end order last leads ends =
+        let told = all order last leads in
+        record {
+          told = told;
+          ends = ap (λ (o : Option Note). option_map_or (λ (note : Note). note.ends) o false) told.noted ∙ ends;
+          low = slice_get_within t.notes told.number (note_of t.asked last.state) told.noted;
+        }
 
-pub each_moved : (s later : Subject) (same : later ≡ s) (edges : List (Edge Move)) (notes : List Note) (endings : Endings)
-    → AreEndings (telling_of (searching_of s) edges notes) (length notes) endings → IsSound (telling_of (searching_of s) edges notes)
-    → TellsOrders (telling_of (searching_of s) edges notes) → TellsEndings (telling_of (searching_of later) edges notes) endings
-each_moved s later same edges notes endings are sound tells =
-    subst (λ (x : Subject). TellsEndings (telling_of (searching_of x) edges notes) endings) (sym same)
-    (each_told (telling_of (searching_of s) edges notes) endings are sound tells)
+    pub all_told : TellsAllEndings t endings
+    all_told order last leads ends =
+        let end = told_end order last leads ends in
+        let look = are.all end.told.number end.low end.ends in
+        record {
+          node = end.told.number;
+          found = end.told.found;
+          look = look;
+          alike = subst (IsAt endings.list.items look.look.ending) (text_alike matched end.told.number last end.told.found) look.alike;
+        }
 
-pub sound_moved : (s later : Subject) (same : later ≡ s) (edges : List (Edge Move)) (notes : List Note)
-    → IsSound (telling_of (searching_of s) edges notes) → IsSound (telling_of (searching_of later) edges notes)
-sound_moved s later same edges notes sound =
-    subst (λ (x : Subject). IsSound (telling_of (searching_of x) edges notes)) (sym same) sound
+    pub all_shortest : IsSound t → AreShortest t endings
+    all_shortest sound place ending order last there leads ends alike =
+        let end = told_end order last leads ends in
+        let text : node_text t end.told.number ≡ ending.seen.items = text_alike matched end.told.number last end.told.found ∙ alike in
+        let first : ending.first ≤ end.told.number = (are.first place ending there).least end.told.number end.low end.ends text in
+        let shorter : length (labels_to t.edges ending.first) ≤ length (labels_to t.edges end.told.number) =
+        later_no_shorter t.edges sound.tree sound.in_order ending.first end.told.number first end.told.found.told in
+        let here : get_or endings.list.items place ending ≡ ending = get_or_from_slice_get endings.list.items place ending ending there in
+        let is : IsEndingOf t ending =
+        subst (IsEndingOf t) here (are.each place ending (slice_get_within endings.list.items place ending there)) in
+        let size : length ending.order.items ≡ length (labels_to t.edges ending.first) = ap length is.order in
+        let most = end.told.no_longer in
+        omega (arith, shorter, size, most)
+
+-- what a search says, also where the search has the same subject then
+pub says_so : {cmp : List ℕ → List ℕ → Ordering} (states : ℕ) (s later : Subject) (told : Told) → later ≡ s → Matched (start_of s).state
+    → FindsNodes states (finding_of s told.found) → FindsAllOrders cmp (finding_of s told.found)
+    → AreEndings (telling_in (finding_of s told.found)) (length told.found.notes.items) told.endings → SaysSo cmp states (report_of later told)
+says_so {cmp = cmp} states s later told same matched nodes whole are =
+    let t : Telling = telling_in (finding_of s told.found) in
+    let here : SaysSo cmp states (report_of s told) = record {
+      nodes = nodes;
+      endings = each_told t told.endings are nodes.found nodes.orders;
+      whole = λ is tell.
+          (let all = whole is tell in
+          record {
+            orders = all;
+            endings = all_told t matched told.endings are all;
+            shortest = all_shortest t matched told.endings are all nodes.found;
+          });
+    } in
+    subst (λ (x : Subject). SaysSo cmp states (report_of x told)) (sym same) here

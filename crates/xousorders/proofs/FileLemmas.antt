@@ -1,6 +1,8 @@
--- The events of an order, move by move.
-use Rattle.std.proofs.Common.{◌≡◌, ◌<◌, ◌+◌, ◌∙◌, ℕ, suc, List, [], ◌∷◌, ◌++◌, get_or, length, take, take-suc, Option, None, sym, ap, arith}
+-- The events of an order, move by move, and the files of endings.
+use Rattle.std.proofs.Common.{◌≡◌, ◌<◌, ◌+◌, ◌∙◌, ℕ, suc, Bool, true, false, List, [], ◌∷◌, ◌++◌, get_or, length, take, take-suc, Option, None, Some, sym, ap, subst, arith}
 use Rattle.std.specs.Prelude.{slice_get}
+use Rattle.std.proofs.lemmas.Bool.{false≢true}
+use Rattle.xousorders.specs.Calls.{Report, files_in}
 use Rattle.std.specs.Option.{option_map_or}
 use Rattle.std.proofs.lemmas.List.{append-nil}
 use Rattle.std.proofs.lemmas.Grind.{flat_map-append}
@@ -8,6 +10,10 @@ use Rattle.order_model.specs.declared.moves.Move.{Move}
 use Rattle.order_model.specs.declared.moves.Move.TheVariants.{Once}
 use Rattle.order_model.specs.Moves.{Asked, events_of, events_of_move}
 use Rattle.xk_base.specs.declared.events.Event.{Event}
+use Rattle.xk_ports.proofs.ToldLemmas.{Grows-append, Grows-none}
+use Rattle.xk_ports.specs.Told.{Grows}
+use Rattle.xousorders.specs.declared.endings.Ending.{Ending}
+use Rattle.xousorders.specs.Files.{EventFile, files_below, order_file}
 
 -- an event of no number plays nothing
 pub none_moved : (asked : Asked) (once : List Event) (k : ℕ) (next : Move) (events : List Event) → asked.once ≡ once → next ≡ Once k
@@ -29,3 +35,31 @@ moved asked order k d events more low so_far added =
     added
     ∙ ((λ i. so_far i ++ sym one i)
     ∙ (sym (flat_map-append (events_of_move asked) (take k order) (get_or order k d ∷ [])) ∙ ap (events_of asked) (sym further)))
+
+-- ---- files
+
+pub no_files : (asked : Asked) (before : List ℕ) (endings : List Ending) (written : Option (List EventFile))
+    → Grows written written (files_below asked before endings 0)
+unfolding files_below
+no_files asked before endings written = Grows-none written
+
+-- the file of an ending more
+pub file_more : (asked : Asked) (before : List ℕ) (endings : List Ending) (n : ℕ) (ending : Ending) (number : ℕ) (old mid new : Option (List EventFile))
+    → slice_get endings n ≡ Some ending → number ≡ n + 1 → Grows old mid (files_below asked before endings n)
+    → Grows mid new ((record { number = number; bytes = order_file asked before ending.order.items }) ∷ [])
+    → Grows old new (files_below asked before endings (n + 1))
+unfolding files_below
+file_more asked before endings n ending number old mid new there is first next =
+    let on : suc n ≡ n + 1 = omega arith in
+    let file : EventFile = record { number = number; bytes = order_file asked before ending.order.items } in
+    let one : file ∷ [] ≡ option_map_or (λ (e : Ending). (record { number = n + 1; bytes = order_file asked before e.order.items }) ∷ []) (slice_get endings n) [] =
+    (λ i. (record { number = is i; bytes = order_file asked before ending.order.items }) ∷ [])
+    ∙ ap (λ (o : Option Ending). option_map_or (λ (e : Ending). (record { number = n + 1; bytes = order_file asked before e.order.items }) ∷ []) o [])
+    (sym there) in
+    subst (λ (k : ℕ). Grows old new (files_below asked before endings k)) on
+    (Grows-append old mid new (files_below asked before endings n) _ first (subst (Grows mid new) one next))
+
+-- .. or none, where none are to be written
+pub no_files_in : (filed : Bool) (report : Report) (written : Option (List EventFile)) → filed ≡ false → Grows written written (files_in filed report)
+no_files_in true report written e = absurd (false≢true (sym e))
+no_files_in false report written e = Grows-none written

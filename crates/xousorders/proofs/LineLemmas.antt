@@ -1,9 +1,12 @@
--- The lines of the endings, one after the other.
-use Rattle.std.proofs.Common.{◌≡◌, ◌+◌, ◌∙◌, ℕ, suc, List, [], ◌++◌, Option, Some, sym, ap, arith}
-use Rattle.std.specs.Prelude.{slice_get}
+-- The lines of the endings, one after the other, and the slices that are counted.
+use Rattle.std.proofs.Common.{◌≡◌, ◌<◌, ◌+◌, ◌∙◌, ℕ, suc, List, [], ◌∷◌, ◌++◌, get_or, length, take, take-suc, Option, Some, refl, sym, ap, arith}
+use Rattle.std.specs.Prelude.{map, min, slice_get, sum}
+use Rattle.std.specs.List.{fold}
 use Rattle.std.specs.Option.{option_map_or}
 use Rattle.std.proofs.lemmas.List.{append-nil, append_assoc}
 use Rattle.xousorders.specs.Endings.{looks_at}
+use Rattle.order_model.specs.declared.moves.Note.{Note}
+use Rattle.xousorders.specs.Searched.{slices_tried}
 use Rattle.xousorders.specs.Lines.{ending_line, line_at, lines_below}
 use Rattle.xousorders.specs.declared.endings.Ending.{Ending}
 use Rattle.xousorders.specs.declared.endings.Endings.{Endings}
@@ -31,3 +34,26 @@ lines_on endings place old so_far more line before put is =
     ∙ ((λ i. before i ++ is i)
     ∙ (append_assoc old (lines_below place endings) (line_at endings place)
     ∙ ap (λ (n : ℕ). old ++ lines_below n endings) (sym on)))
+
+-- ---- slices
+
+abbrev sum_of : List Note → ℕ
+sum_of notes = sum (map (λ (note : Note). note.slices) notes)
+
+fold_more : (sum : ℕ) (xs : List Note) (note : Note)
+    → fold ◌+◌ sum (map (λ (n : Note). n.slices) (xs ++ note ∷ [])) ≡ fold ◌+◌ sum (map (λ (n : Note). n.slices) xs) + note.slices
+fold_more sum [] note = refl
+fold_more sum (x ∷ xs) note = fold_more (sum + x.slices) xs note
+
+sum_more : (xs : List Note) (note : Note) → sum_of (xs ++ note ∷ []) ≡ sum_of xs + note.slices
+sum_more xs note = fold_more 0 xs note
+
+-- the slices of one node more
+pub tried_more : (notes : List Note) (k : ℕ) (d : Note) (slices more : ℕ) → k < length notes → slices ≡ slices_tried (take k notes)
+    → more ≡ min (slices + (get_or notes k d).slices) 18446744073709551615 → more ≡ slices_tried (take (k + 1) notes)
+tried_more notes k d slices more low so_far is =
+    let next : k + 1 ≡ suc k = omega arith in
+    let further : take (k + 1) notes ≡ take k notes ++ get_or notes k d ∷ [] = ap (λ (n : ℕ). take n notes) next ∙ take-suc notes k d low in
+    let all : sum_of (take (k + 1) notes) ≡ sum_of (take k notes) + (get_or notes k d).slices =
+    ap sum_of further ∙ sum_more (take k notes) (get_or notes k d) in
+    omega (arith, so_far, is, all)

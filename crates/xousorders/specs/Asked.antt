@@ -8,9 +8,10 @@ use Rattle.kernel_args.specs.declared.args.Args.{Args}
 use Rattle.kernel_args.specs.declared.faults.ArgFault.{ArgFault}
 use Rattle.order_search.specs.declared.subject.Subject.{Subject}
 use Rattle.xk_base.specs.declared.events.Event.{Event}
-use Rattle.xk_base.specs.declared.limits.TheConstants.{EVENT_FILE_LIMIT, STEP_LIMIT}
+use Rattle.xk_base.specs.declared.limits.TheConstants.{EVENT_FILE_LIMIT}
 use Rattle.program_status.specs.Plans.{IsSoundImage}
 use Rattle.program_status.specs.declared.status.Status.{Status}
+use Rattle.xousorders.specs.Searched.{IsSearched, IsStopped}
 use Rattle.program_status.specs.declared.status.Status.TheVariants.{EventFault, ImageFault, NoMemory, ReadFault, StepLimit}
 
 -- the files of the host by their names, where they are told
@@ -74,12 +75,20 @@ RefusesEvents files name host_rose ReadFault = host_rose ⊎ IsTooLong files nam
 RefusesEvents files name host_rose NoMemory = Unit {0}
 RefusesEvents files name host_rose status = ⊥
 
+-- the search that was asked for isn't begun, or isn't gone on with, for this reason
+pub record IsStoppedSearch (files : HostFiles) (asking : Asking) (steps : ℕ) (status : Status) : Type 0 where
+  pub asked : Subject
+  pub is_asked : IsAsked files asking asked
+  pub searched : Subject
+  pub is_searched : IsSearched steps asked searched
+  pub why : IsStopped searched status
+
 -- Why nothing is told, by the status: the image has this first fault; a file wasn't read, as the host failed or the events before are too
--- long; these have a bad line; a run would have too many steps; there is no memory.
-abbrev pub Stops : HostFiles → Asking → Type 0 → Status → Type 0
-Stops files asking host_rose (ImageFault fault) = HasFault files asking.image fault
-Stops files asking host_rose ReadFault = host_rose ⊎ IsTooLong files asking.before
-Stops files asking host_rose (EventFault line) = Unit {0}
-Stops files asking host_rose (StepLimit limit) = limit ≡ STEP_LIMIT
-Stops files asking host_rose NoMemory = Unit {0}
-Stops files asking host_rose status = ⊥
+-- long; the search was stopped, by the first bad line of these or by the step limit; there is no memory.
+abbrev pub Stops : HostFiles → Asking → ℕ → Type 0 → Status → Type 0
+Stops files asking steps host_rose (ImageFault fault) = HasFault files asking.image fault
+Stops files asking steps host_rose ReadFault = host_rose ⊎ IsTooLong files asking.before
+Stops files asking steps host_rose (EventFault line) = IsStoppedSearch files asking steps (EventFault line)
+Stops files asking steps host_rose (StepLimit limit) = IsStoppedSearch files asking steps (StepLimit limit)
+Stops files asking steps host_rose NoMemory = Unit {0}
+Stops files asking steps host_rose status = ⊥

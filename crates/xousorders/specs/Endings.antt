@@ -3,8 +3,6 @@ use Rattle.std.specs.Prelude.{◌≡◌, ◌<◌, ◌≤◌, ◌==◌, ◌&&◌,
 use Rattle.std.specs.Option.{option_map_or}
 use Rattle.std.specs.Str.{bytes_eq}
 use Rattle.order_model.specs.declared.moves.Move.{Move}
-use Rattle.order_model.specs.declared.moves.Note.{Note}
-use Rattle.order_model.specs.declared.moves.Note.TheVariants.{Ending as IsEnd, Inner}
 use Rattle.order_model.specs.Endings.{is_ending, seen_of}
 use Rattle.order_model.specs.Moves.{Point, leads_by}
 use Rattle.order_model.specs.Nodes.{after, node_of}
@@ -19,13 +17,9 @@ use Rattle.xousorders.specs.declared.endings.Look.{Look}
 
 -- ---- of nodes
 
-abbrev pub is_end : Note → Bool
-is_end IsEnd = true
-is_end Inner = false
-
 -- orders end at the node of this number
 abbrev pub ends_at : Telling → ℕ → Bool
-ends_at t node = option_map_or is_end (slice_get t.notes node) false
+ends_at t node = option_map_or (λ note. note.ends) (slice_get t.notes node) false
 
 -- the text of what is seen where the order to the node of this number leads
 unfoldable pub node_text : Telling → ℕ → List ℕ
@@ -37,7 +31,7 @@ nodes_like t n text = count_below n (λ node. ends_at t node && bytes_eq (node_t
 
 -- an ending is that of a node where orders end, with the order to that node, and what is seen there
 pub record IsEndingOf (t : Telling) (ending : Ending) : Type 0 where
-  pub ends : slice_get t.notes ending.first ≡ Some IsEnd
+  pub ends : ends_at t ending.first ≡ true
   pub order : ending.order.items ≡ labels_to t.edges ending.first
   pub seen : ending.seen.items ≡ node_text t ending.first
 
@@ -78,11 +72,17 @@ abbrev pub CountsNodes : Telling → ℕ → Endings → Type 0
 CountsNodes t n endings =
     (place : ℕ) (text : List ℕ) → IsAt endings.list.items place text → looks_at endings.looks.items place ≡ nodes_like t n text
 
+-- the node of an ending is the first that looks so, of the first n
+pub record IsFirst (t : Telling) (n : ℕ) (ending : Ending) : Type 0 where
+  pub low : ending.first < n
+  pub least : (node : ℕ) → node < n → ends_at t node ≡ true → node_text t node ≡ ending.seen.items → ending.first ≤ node
+
 -- Each of these endings is one, no two look alike, and each of the first nodes where orders end is told once, to look like one of them.
 pub record AreEndings (t : Telling) (n : ℕ) (endings : Endings) : Type 0 where
   pub each : All (IsEndingOf t) endings.list.items
   pub different : AreDifferent endings.list.items
-  pub all : (node : ℕ) → node < n → slice_get t.notes node ≡ Some IsEnd → IsLook t endings node
+  pub first : (place : ℕ) (ending : Ending) → slice_get endings.list.items place ≡ Some ending → IsFirst t n ending
+  pub all : (node : ℕ) → node < n → ends_at t node ≡ true → IsLook t endings node
   pub nodes : AreNodes t n endings
   pub counts : CountsNodes t n endings
   pub beyond : (place : ℕ) → length endings.list.items ≤ place → looks_at endings.looks.items place ≡ 0
@@ -132,6 +132,13 @@ pub record TellsEndings (t : Telling) (endings : Endings) : Type 0 where
   pub different : AreDifferent endings.list.items
   pub nodes : AreNodes t (length t.notes) endings
   pub counts : CountsNodes t (length t.notes) endings
+
+-- The order of each ending is a shortest one to where it is seen.
+abbrev pub AreShortest : Telling → Endings → Type 0
+AreShortest t endings =
+    (place : ℕ) (ending : Ending) (order : List Move) (last : Point) → slice_get endings.list.items place ≡ Some ending
+    → leads_by t.asked t.start order ≡ Some last → is_ending t.asked last.state ≡ true → seen_text (seen_of last) ≡ ending.seen.items
+    → length ending.order.items ≤ length order
 
 -- **Whole**: wherever an order ends, what is seen there is told.
 abbrev pub TellsAllEndings : Telling → Endings → Type 0

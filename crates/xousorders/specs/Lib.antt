@@ -5,3 +5,4 @@ pub mod Files
 pub mod Lines
 pub mod Outcomes
 pub mod Searched
+pub mod Words

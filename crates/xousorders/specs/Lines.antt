@@ -1,5 +1,5 @@
 -- The lines of what a search found.
-use Rattle.std.specs.Prelude.{ℕ, zero, suc, ◌+◌, ◌==◌, Bool, true, false, List, [], ◌++◌, codes, decimal, filter, if◌then◌else◌, length, slice_get}
+use Rattle.std.specs.Prelude.{ℕ, zero, suc, ◌+◌, ◌==◌, Bool, true, false, List, [], ◌++◌, codes, decimal, filter, if◌then◌else◌, length, slice_get, Option, Some, None}
 use Rattle.std.specs.Option.{option_map_or}
 use Rattle.order_model.specs.declared.moves.Move.{Move}
 use Rattle.order_model.specs.declared.moves.Move.TheVariants.{Once, Slice}
@@ -13,12 +13,18 @@ abbrev pub counted : ℕ → List ℕ → List ℕ
 counted n noun = decimal n ++ (codes " " ++ (noun ++ (if n == 1 then [] else codes "s")))
 
 abbrev pub extent_text : Extent → List ℕ
-extent_text Whole = codes " whole\n"
-extent_text (Cut why) = codes " cut\n"
+extent_text Whole = codes " whole"
+extent_text (Cut why) = codes " cut"
 
--- how much was searched
-abbrev pub extent_line : ℕ → ℕ → Extent → List ℕ
-extent_line states slices extent = codes "states " ++ (decimal states ++ (codes " slices " ++ (decimal slices ++ extent_text extent)))
+-- the bound of steps, where there is one
+abbrev pub bound_text : Option ℕ → List ℕ
+bound_text None = codes "\n"
+bound_text (Some steps) = codes " within " ++ (decimal steps ++ codes " steps\n")
+
+-- how much was searched, and within which bound
+abbrev pub extent_line : ℕ → ℕ → Extent → Option ℕ → List ℕ
+extent_line states slices extent bound =
+    codes "states " ++ (decimal states ++ (codes " slices " ++ (decimal slices ++ (extent_text extent ++ bound_text bound))))
 
 abbrev pub is_slice : Move → Bool
 is_slice (Slice who steps) = true

@@ -1,11 +1,35 @@
--- Which orders were searched, and what is told of them.
-use Rattle.std.specs.Prelude.{◌≡◌, ◌⊎◌, ℕ, Some}
+-- Which orders were searched, and why they aren't searched on.
+use Rattle.std.specs.Prelude.{◌≡◌, ◌⊎◌, ℕ, List, map, min, Some, sum}
+use Rattle.order_model.specs.declared.moves.Note.{Note}
+use Rattle.order_search.specs.declared.quest.OrderFault.TheVariants.{Line, Steps}
 use Rattle.order_search.specs.declared.subject.Subject.{Subject}
+use Rattle.order_search.specs.Faults.{ComesToTimer, IsFault}
+use Rattle.order_search.specs.Quests.{searching_of}
+use Rattle.program_status.specs.declared.status.Status.{Status}
+use Rattle.program_status.specs.declared.status.Status.TheVariants.{EventFault, NoMemory, StepLimit}
+use Rattle.xk_base.specs.declared.limits.TheConstants.{STEP_LIMIT}
 
 -- the same orders with a bound of steps
 abbrev pub bounded : ℕ → Subject → Subject
 bounded steps s = record s { orders = record s.orders { bound = Some steps } }
 
--- the orders that were asked for were searched, or those with the bound
+-- the orders were searched with the bound, as one without it comes to a claim of the timer's interrupt
+pub record IsBounded (steps : ℕ) (asked searched : Subject) : Type 0 where
+  pub timer : ComesToTimer (searching_of asked)
+  pub is : searched ≡ bounded steps asked
+
+-- The orders that were asked for were searched; or those with the bound, only where one comes to a claim of the timer's interrupt.
 abbrev pub IsSearched : ℕ → Subject → Subject → Type 0
-IsSearched steps asked searched = (searched ≡ asked) ⊎ (searched ≡ bounded steps asked)
+IsSearched steps asked searched = (searched ≡ asked) ⊎ IsBounded steps asked searched
+
+-- how many slices were tried from the nodes that were followed; more than 64 bits hold aren't counted
+abbrev pub slices_tried : List Note → ℕ
+slices_tried notes = min (sum (map (λ note. note.slices) notes)) 18446744073709551615
+
+-- Orders aren't searched on: the events before meet the step limit, or an order comes near it; the events before have this first bad line; or
+-- there is no memory.
+abbrev pub IsStopped : Subject → Status → Type 0
+IsStopped s (StepLimit limit) = (limit ≡ STEP_LIMIT) × IsFault s Steps
+IsStopped s (EventFault line) = IsFault s (Line line)
+IsStopped s NoMemory = Unit {0}
+IsStopped s status = ⊥

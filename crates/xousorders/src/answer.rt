@@ -1,11 +1,12 @@
 //! What is told of a search.
 
 ghost use Rattle.std.specs.Prelude.{◌≡◌, ◌++◌, OnOk};
-ghost use Rattle.xousorders.specs.Lines.{counted, ending_counts, ending_head, ending_line, endings_text, extent_line, slices_in};
+ghost use Rattle.xousorders.specs.Lines.{bound_text, counted, ending_counts, ending_head, ending_line, endings_text, extent_line, extent_text, slices_in};
+ghost use Rattle.xousorders.specs.Searched.{slices_tried as slices_tried_by};
 
 use crate::endings::{Ending, Endings, count_looks};
 use graph_search::{Cut, Extent};
-use order_model::Move;
+use order_model::{Move, Note};
 use order_text::{put, put_number};
 use std::alloc::AllocError;
 
@@ -32,23 +33,57 @@ fn slices_of(order: &[Move]) -> u64
         .count() as u64
 }
 
-/// The line of how much was searched.
+/// How many slices were tried from the nodes with these notes.
+pub fn slices_tried(notes: &[Note]) -> u64
+    ensures { result ≡ slices_tried_by notes.now }
+{
+    let mut slices = 0u64;
+    for note in notes {
+        slices = slices.saturating_add(note.slices as u64);
+    }
+    slices
+}
+
+/// Whether all was found.
+fn put_how_far(text: &mut Vec<u8>, extent: Extent) -> Result<(), AllocError>
+    ensures { OnOk result (text.new.items ≡ text.old.items ++ extent_text extent) }
+{
+    match extent {
+        Extent::Whole => put(text, b" whole"),
+        Extent::Cut(Cut::Nodes) | Extent::Cut(Cut::Memory) => put(text, b" cut"),
+    }
+}
+
+/// The bound of steps, where there is one.
+fn put_bound(text: &mut Vec<u8>, bound: Option<u32>) -> Result<(), AllocError>
+    ensures { OnOk result (text.new.items ≡ text.old.items ++ bound_text bound) }
+{
+    match bound {
+        None => put(text, b"\n"),
+        Some(steps) => {
+            put(text, b" within ")?;
+            put_number(text, u64::from(steps))?;
+            put(text, b" steps\n")
+        }
+    }
+}
+
+/// The line of how much was searched, and within which bound.
 pub fn put_extent(
     text: &mut Vec<u8>,
     states: u64,
     slices: u64,
     extent: Extent,
+    bound: Option<u32>,
 ) -> Result<(), AllocError>
-    ensures { OnOk result (text.new.items ≡ text.old.items ++ extent_line states slices extent) }
+    ensures { OnOk result (text.new.items ≡ text.old.items ++ extent_line states slices extent bound) }
 {
     put(text, b"states ")?;
     put_number(text, states)?;
     put(text, b" slices ")?;
     put_number(text, slices)?;
-    match extent {
-        Extent::Whole => put(text, b" whole\n"),
-        Extent::Cut(Cut::Nodes) | Extent::Cut(Cut::Memory) => put(text, b" cut\n"),
-    }
+    put_how_far(text, extent)?;
+    put_bound(text, bound)
 }
 
 /// The number of an ending, and what is seen of it.

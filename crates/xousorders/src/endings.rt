@@ -1,15 +1,14 @@
 //! The endings of a search: those that look alike are one.
 
-ghost use Rattle.std.specs.Prelude.{◌≡◌, ◌<◌, ◌+◌, IfErr, IfSome, IfOk, OnOk, None, Some, length, slice_get};
+ghost use Rattle.std.specs.Prelude.{◌≡◌, ◌<◌, ◌+◌, IfErr, IfSome, IfOk, OnOk, None, length, true};
 ghost use Rattle.order_model.specs.Searches.{IsSound};
-ghost use Rattle.order_model.specs.declared.moves.Note.TheVariants.{Ending as IsEnd};
 ghost use Rattle.order_search.specs.Found.{TellsOrders, telling_of};
 ghost use Rattle.order_search.specs.Quests.{searching_of};
-ghost use Rattle.xousorders.specs.Endings.{Adds, AreEndings, IsAt, Lists, NoneIs, looks_at};
-ghost use Rattle.xousorders.specs.Outcomes.{IsStopped};
+ghost use Rattle.xousorders.specs.Endings.{Adds, AreEndings, IsAt, Lists, NoneIs, ends_at, looks_at};
+ghost use Rattle.xousorders.specs.Searched.{IsStopped};
 
-use crate::outcome::stopped;
-use graph_search::{Found, Unanswered, path_to};
+use crate::outcome::unplayed;
+use graph_search::{Found, path_to};
 use order_model::{Move, Note};
 use order_search::{Quest, Stand};
 use order_text::put_seen;
@@ -97,18 +96,18 @@ fn see(
     requires told { let q = searching_of quest.old.subject in
         TellsOrders (telling_of q found.now.edges.items found.now.notes.items) }
     requires node { node < length found.now.notes.items }
-    requires ends { slice_get found.now.notes.items node ≡ Some IsEnd }
+    requires ends { let q = searching_of quest.old.subject in
+        ends_at (telling_of q found.now.edges.items found.now.notes.items) node ≡ true }
     ensures adds { let q = searching_of quest.old.subject in
         let t = telling_of q found.now.edges.items found.now.notes.items in
         OnOk result (AreEndings t node endings.old → AreEndings t (node + 1) endings.new) }
     ensures subject { quest.new.subject ≡ quest.old.subject }
-    ensures stopped { IfErr result IsStopped }
+    ensures stopped { IfErr result (IsStopped quest.old.subject) }
 {
     let order = path_to(alloc, &found.edges, node)?;
     let Stand { state, trail } = match quest.stand(&order) {
         Ok(stand) => stand,
-        Err(Unanswered::Memory(_)) => return Err(Status::NoMemory),
-        Err(Unanswered::Fault(fault)) => return Err(stopped(fault)),
+        Err(answer) => return Err(unplayed(answer)),
     };
     let mut seen = Vec::new(alloc);
     put_seen(&mut seen, &state, &trail.console)?;
@@ -132,11 +131,13 @@ fn pass(
         let t = telling_of q found.now.edges.items found.now.notes.items in
         OnOk result (AreEndings t node endings.old → AreEndings t (node + 1) endings.new) }
     ensures subject { quest.new.subject ≡ quest.old.subject }
-    ensures stopped { IfErr result IsStopped }
+    ensures stopped { IfErr result (IsStopped quest.old.subject) }
 {
-    match found.notes[node] {
-        Note::Inner => Ok(()),
-        Note::Ending => see(alloc, quest, found, node, endings),
+    let note = found.notes[node];
+    if note.ends {
+        see(alloc, quest, found, node, endings)
+    } else {
+        Ok(())
     }
 }
 
@@ -153,7 +154,7 @@ pub fn endings_of(
         let t = telling_of q found.now.edges.items found.now.notes.items in
         IfOk result (AreEndings t (length t.notes)) }
     ensures subject { quest.new.subject ≡ quest.old.subject }
-    ensures stopped { IfErr result IsStopped }
+    ensures stopped { IfErr result (IsStopped quest.old.subject) }
 {
     let mut endings = Endings {
         list: Vec::new(alloc),

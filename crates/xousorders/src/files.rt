@@ -1,17 +1,18 @@
 //! Orders are written as event files.
 
-ghost use Rattle.std.specs.Prelude.{◌≡◌, ◌++◌, IfErr, IfOk, OnOk, slice_get};
+ghost use Rattle.std.specs.Prelude.{◌≡◌, ◌≤◌, ◌∷◌, ◌++◌, [], IfErr, IfOk, OnOk, slice_get};
 ghost use Rattle.order_model.specs.Moves.{Asked, events_of as events_in, events_of_move};
-ghost use Rattle.xousorders.specs.Files.{order_file, with_feed};
+ghost use Rattle.xk_base.specs.Outside.{Rose};
+ghost use Rattle.xk_ports.specs.Told.{Grows};
+ghost use Rattle.xousorders.specs.Files.{order_file, order_files, with_feed};
 ghost use Rattle.xousorders.specs.Outcomes.{IsUnfiled};
 
 use crate::endings::Ending;
+use crate::folder::Folder;
 use event_text::event_file;
 use order_model::Move;
 use program_status::Status;
 use std::alloc::{AllocError, Global};
-use std::fs;
-use std::rt::Files;
 use xk_base::Event;
 
 /// The event of this number.
@@ -80,25 +81,43 @@ fn file_of(
     Ok(file)
 }
 
-/// Writes the event file of each ending.
-pub fn write_files<R: Files>(
-    rt: &R,
+/// Writes the event file of an ending.
+fn write_file<F: Folder>(
     alloc: Global,
-    folder: &str,
+    folder: &mut F,
+    number: u64,
+    before: &[u8],
+    once: &[Event],
+    ending: &Ending,
+) -> Result<(), Status>
+    ensures filed { (asked : Asked) → asked.once ≡ once.now → OnOk result (Grows (F.written folder.old) (F.written folder.new)
+        (record { number = number; bytes = order_file asked before.now ending.now.order.items } ∷ [])) }
+    ensures unfiled { IfErr result (IsUnfiled (Rose (F.faults folder.old) (F.faults folder.new))) }
+    ensures never_falls { F.faults folder.old ≤ F.faults folder.new }
+{
+    let file = file_of(alloc, before, &ending.order, once)?;
+    match folder.write(number, file.as_slice()) {
+        Ok(()) => Ok(()),
+        Err(_) => Err(Status::WriteFault),
+    }
+}
+
+/// Writes the event file of each ending.
+pub fn write_files<F: Folder>(
+    alloc: Global,
+    folder: &mut F,
     before: &[u8],
     once: &[Event],
     endings: &[Ending],
 ) -> Result<(), Status>
-    ensures { IfErr result IsUnfiled }
+    ensures filed { (asked : Asked) → asked.once ≡ once.now
+        → OnOk result (Grows (F.written folder.old) (F.written folder.new) (order_files asked before.now endings.now)) }
+    ensures unfiled { IfErr result (IsUnfiled (Rose (F.faults folder.old) (F.faults folder.new))) }
+    ensures never_falls { F.faults folder.old ≤ F.faults folder.new }
 {
-    let mut number = 0u64;
-    for ending in endings {
-        number = number.saturating_add(1);
-        let file = file_of(alloc, before, &ending.order, once)?;
-        let name = format!(in alloc; "{folder}/ending-{number}.events")?;
-        if fs::write(rt, name.as_str(), file.as_slice()).is_err() {
-            return Err(Status::WriteFault);
-        }
+    for place in 0..endings.len() {
+        let number = place as u64 + 1;
+        write_file(alloc, folder, number, before, once, &endings[place])?;
     }
     Ok(())
 }

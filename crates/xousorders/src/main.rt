@@ -4,6 +4,7 @@
 mod answer;
 mod endings;
 mod files;
+mod folder;
 mod image;
 mod notes;
 mod outcome;
@@ -11,6 +12,7 @@ mod run;
 mod watching;
 mod words;
 
+use folder::DiskFolder;
 use host_io::{ErrSink, FileHost, StdSink};
 use notes::write_note;
 use outcome::Outcome;
@@ -18,6 +20,7 @@ use program_status::{Status, all_words, hold_descriptors};
 use run::run;
 use std::io::IsTerminal;
 use std::process::ExitCode;
+use watching::Teller;
 use words::{Unread, read_words};
 use xk_ports::Sink;
 
@@ -38,7 +41,11 @@ fn main(rt: HostRuntime) -> ExitCode {
     let mut host = FileHost::new(&rt);
     let outcome = match all_words(&rt) {
         Ok(all) => match read_words(alloc, &all) {
-            Ok(words) => run(&rt, alloc, words, &mut host, &mut out, &mut notes, is_seen),
+            Ok(words) => {
+                let mut folder = DiskFolder::new(&rt, alloc, words.folder.unwrap_or(""));
+                let mut teller = Teller::new(&rt, &mut notes, is_seen);
+                run(alloc, words, &mut host, &mut folder, &mut out, &mut teller)
+            }
             Err(Unread::Usage) => Outcome::Ended(Status::Usage),
             Err(Unread::NoMemory) => Outcome::Ended(Status::NoMemory),
         },

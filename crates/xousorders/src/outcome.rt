@@ -1,9 +1,14 @@
 //! How the program ends.
 
-ghost use Rattle.std.specs.Prelude.{◌≡◌, length};
-ghost use Rattle.xousorders.specs.Outcomes.{IsStopped, is_several, number_of, outcome_of};
+ghost use Rattle.std.specs.Prelude.{◌≡◌, IsSome, length};
+ghost use Rattle.order_search.specs.Faults.{IsFault, IsRunFault};
+ghost use Rattle.graph_search.specs.Edges.{HasCause};
+ghost use Rattle.order_search.specs.declared.subject.Subject.{Subject};
+ghost use Rattle.xousorders.specs.Outcomes.{is_several, number_of, outcome_of};
+ghost use Rattle.xousorders.specs.Searched.{IsStopped};
 
 use crate::endings::Endings;
+use graph_search::Unanswered;
 use order_search::OrderFault;
 use program_status::Status;
 use xk_base::limits::STEP_LIMIT;
@@ -31,11 +36,23 @@ impl Outcome {
 
 /// How the program ends where orders aren't searched on.
 pub fn stopped(fault: OrderFault) -> Status
-    ensures { IsStopped result }
+    ensures { (s : Subject) → IsFault s fault → (fault ≡ OrderFault.Timer → IsSome s.orders.bound) → IsStopped s result }
 {
     match fault {
-        OrderFault::Steps | OrderFault::Timer => Status::StepLimit(STEP_LIMIT),
+        OrderFault::Steps => Status::StepLimit(STEP_LIMIT),
+        // Orders with a bound don't end so.
+        OrderFault::Timer => Status::StepLimit(STEP_LIMIT),
         OrderFault::Line(line) => Status::EventFault(line),
+    }
+}
+
+/// How the program ends where an order isn't played.
+pub fn unplayed(answer: Unanswered<OrderFault>) -> Status
+    ensures { (s : Subject) → HasCause (IsRunFault s) answer → IsStopped s result }
+{
+    match answer {
+        Unanswered::Memory(_) => Status::NoMemory,
+        Unanswered::Fault(fault) => stopped(fault),
     }
 }
 

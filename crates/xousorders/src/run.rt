@@ -1,32 +1,30 @@
 //! A search is made and told.
 
 ghost use Rattle.std.specs.Option.{option_copied};
-ghost use Rattle.std.specs.Prelude.{◌≡◌, ◌≤◌, ◌+◌, ◌++◌, ℕ, IfErr, IfOk, length};
-ghost use Rattle.order_model.specs.Searches.{IsSound};
-ghost use Rattle.order_search.specs.Found.{DigestsTell, TellsAllOrders, TellsOrders, telling_of};
-ghost use Rattle.order_search.specs.Quests.{searching_of};
+ghost use Rattle.std.specs.Prelude.{◌≡◌, ◌≤◌, ℕ, IfErr, IfOk, OnOk, length};
+ghost use Rattle.order_search.specs.Faults.{IsBegun};
+ghost use Rattle.order_search.specs.Found.{FindsAllOrders, FindsNodes, finding_of};
 ghost use Rattle.xk_base.specs.Outside.{Rose};
+ghost use Rattle.xk_ports.specs.Told.{Grows};
 ghost use Rattle.xousorders.specs.Asked.{IsAsked, Stops, asking_of};
-ghost use Rattle.xousorders.specs.Calls.{Ends, TellsSearch, command_in, sides_of};
-ghost use Rattle.xousorders.specs.Endings.{TellsAllEndings, TellsEndings};
-ghost use Rattle.xousorders.specs.Lines.{endings_text, extent_line};
-ghost use Rattle.xousorders.specs.Searched.{IsSearched};
-ghost use Rattle.xousorders.specs.Outcomes.{IsStopped, IsUnfiled};
+ghost use Rattle.xousorders.specs.Calls.{Ends, SaysSo, TellsSearch, command_in, files_in, lines_in, report_of, sides_of};
+ghost use Rattle.xousorders.specs.Outcomes.{IsUnfiled};
+ghost use Rattle.xousorders.specs.Searched.{IsSearched, IsStopped};
 
-use crate::answer::{put_endings, put_extent};
+use crate::answer::{put_endings, put_extent, slices_tried};
 use crate::endings::{Endings, endings_of};
 use crate::files::write_files;
+use crate::folder::Folder;
 use crate::image::{read_events, read_image};
-use crate::outcome::{Outcome, ended, stopped};
-use crate::watching::Teller;
+use crate::outcome::{Outcome, ended, stopped, unplayed};
 use crate::words::Words;
-use graph_search::{Extent, Found, Watch};
+use graph_search::{Found, Watch};
 use order_model::{Move, Note, Orders};
 use order_search::{OrderFault, Quest, Subject, search_orders};
 use program_status::{Planned, Status, plan_bytes};
 use std::alloc::{AllocError, Global};
-use std::rt::{Clock, Files};
 use xk_base::Event;
+use xk_base::limits::STEP_LIMIT;
 use xk_ports::{Host, Sink, put_all};
 
 /// The nodes that a search found, and the endings among them.
@@ -44,7 +42,7 @@ struct Answer {
     text: Vec<u8>,
 }
 
-/// The search without a bound of steps, or with one where a process claims the timer's interrupt.
+/// The search without a bound of steps, or with one where an order comes to a claim of the timer's interrupt.
 fn search_all<W: Watch>(
     alloc: Global,
     quest: &mut Quest,
@@ -52,20 +50,16 @@ fn search_all<W: Watch>(
     steps: u32,
     watch: &mut W,
 ) -> Result<Found<Move, Note>, Status>
-    ensures found { let q = searching_of quest.new.subject in
-        IfOk result (λ found. IsSound (telling_of q found.edges.items found.notes.items)) }
-    ensures sound { let q = searching_of quest.new.subject in
-        IfOk result (λ found. TellsOrders (telling_of q found.edges.items found.notes.items)) }
-    ensures whole { let q = searching_of quest.new.subject in
-        IfOk result (λ found. found.extent ≡ Extent.Whole → DigestsTell q ⟦<[u8; 32] as Ord>⟧.cmp
-        → TellsAllOrders (telling_of q found.edges.items found.notes.items)) }
+    ensures nodes { IfOk result (λ found. FindsNodes states (finding_of quest.new.subject found)) }
+    ensures whole { IfOk result (λ found. FindsAllOrders ⟦<[u8; 32] as Ord>⟧.cmp (finding_of quest.new.subject found)) }
     ensures subject { IsSearched steps quest.old.subject quest.new.subject }
-    ensures stopped { IfErr result IsStopped }
+    ensures stopped { IfErr result (IsStopped quest.new.subject) }
 {
     match search_orders(alloc, quest, states, watch) {
         Ok(found) => return Ok(found),
         Err(OrderFault::Timer) => {}
-        Err(fault) => return Err(stopped(fault)),
+        Err(OrderFault::Steps) => return Err(Status::StepLimit(STEP_LIMIT)),
+        Err(OrderFault::Line(line)) => return Err(Status::EventFault(line)),
     }
     quest.count_steps(steps);
     match search_orders(alloc, quest, states, watch) {
@@ -74,8 +68,7 @@ fn search_all<W: Watch>(
     }
 }
 
-/// The search, and the endings that it found. The order of each ending that is told leads where orders end and where what is told is
-/// seen; and where the search is whole, and no two nodes have one digest, it is told wherever an order ends.
+/// The search, and the endings that it found.
 fn search_endings<W: Watch>(
     alloc: Global,
     quest: &mut Quest,
@@ -83,15 +76,9 @@ fn search_endings<W: Watch>(
     steps: u32,
     watch: &mut W,
 ) -> Result<Told, Status>
-    ensures found { let q = searching_of quest.new.subject in
-        IfOk result (λ told. IsSound (telling_of q told.found.edges.items told.found.notes.items)) }
-    ensures sound { let q = searching_of quest.new.subject in
-        IfOk result (λ told. TellsEndings (telling_of q told.found.edges.items told.found.notes.items) told.endings) }
-    ensures whole { let q = searching_of quest.new.subject in
-        IfOk result (λ told. told.found.extent ≡ Extent.Whole → DigestsTell q ⟦<[u8; 32] as Ord>⟧.cmp
-        → TellsAllEndings (telling_of q told.found.edges.items told.found.notes.items) told.endings) }
+    ensures so { IfOk result (λ told. SaysSo ⟦<[u8; 32] as Ord>⟧.cmp states (report_of quest.new.subject told)) }
     ensures subject { IsSearched steps quest.old.subject quest.new.subject }
-    ensures stopped { IfErr result IsStopped }
+    ensures stopped { IfErr result (IsStopped quest.new.subject) }
 {
     let found = search_all(alloc, quest, states, steps, watch)?;
     let endings = endings_of(alloc, quest, &found)?;
@@ -100,18 +87,17 @@ fn search_endings<W: Watch>(
 
 /// The lines of what was found.
 fn lines_of(alloc: Global, quest: &Quest, told: &Told) -> Result<Vec<u8>, AllocError>
-    ensures { IfOk result (λ text. (slices : ℕ) × (text.items
-        ≡ extent_line (length told.now.found.edges.items + 1) slices told.now.found.extent ++ endings_text told.now.endings)) }
+    ensures { IfOk result (λ text. text.items ≡ lines_in (report_of quest.now.subject told.now)) }
 {
     let mut text = Vec::new(alloc);
-    let edges = told.found.edges.len();
-    let slices = quest.slices();
-    put_extent(&mut text, edges as u64 + 1, slices, told.found.extent)?;
+    let states = told.found.edges.len() as u64 + 1;
+    let slices = slices_tried(&told.found.notes);
+    put_extent(&mut text, states, slices, told.found.extent, quest.bound())?;
     put_endings(&mut text, &told.endings)?;
     Ok(text)
 }
 
-/// The search that is asked for, without a bound of steps.
+/// The search that is asked for, without a bound of steps. The events before are played once, so that it is known that they can be.
 fn quest_of<H: Host>(
     alloc: Global,
     host: &mut H,
@@ -123,8 +109,9 @@ fn quest_of<H: Host>(
     requires { length once.items ≤ 255 }
     ensures asked { let asking = asking_of image.now (option_copied before.entry) quantum once.items in
         IfOk result (λ quest. IsAsked (H.file host.old) asking quest.subject) }
+    ensures begun { IfOk result (λ quest. IsBegun quest.subject) }
     ensures stops { let asking = asking_of image.now (option_copied before.entry) quantum once.items in
-        let rose = Rose (H.faults host.old) (H.faults host.new) in IfErr result (Stops (H.file host.old) asking rose) }
+        let rose = Rose (H.faults host.old) (H.faults host.new) in (steps : ℕ) → IfErr result (Stops (H.file host.old) asking steps rose) }
 {
     let file = read_image(alloc, host, image)?;
     let planned = plan_bytes(alloc, &file, None)?;
@@ -141,9 +128,13 @@ fn quest_of<H: Host>(
         before,
         orders,
     };
-    match Quest::new(alloc, subject) {
-        Ok(quest) => Ok(quest),
-        Err(_) => Err(Status::NoMemory),
+    let quest = match Quest::new(alloc, subject) {
+        Ok(quest) => quest,
+        Err(_) => return Err(Status::NoMemory),
+    };
+    match quest.begin_alone() {
+        Ok(()) => Ok(quest),
+        Err(answer) => Err(unplayed(answer)),
     }
 }
 
@@ -156,9 +147,10 @@ fn search_words<H: Host, W: Watch>(
 ) -> Result<Answer, Status>
     requires { length words.once.items ≤ 255 }
     ensures told { let command = command_in words.entry in IfOk result (λ answer.
-        TellsSearch ⟦<[u8; 32] as Ord>⟧.cmp (H.file host.old) command answer.text.items answer.told.endings) }
+        TellsSearch ⟦<[u8; 32] as Ord>⟧.cmp (H.file host.old) command answer.text.items (report_of answer.quest.subject answer.told)) }
     ensures stops { let rose = Rose (H.faults host.old) (H.faults host.new) in
-        IfErr result (Stops (H.file host.old) (command_in words.entry).asking rose) }
+        let command = command_in words.entry in
+        IfErr result (Stops (H.file host.old) command.asking command.steps rose) }
 {
     let Words {
         image,
@@ -176,46 +168,46 @@ fn search_words<H: Host, W: Watch>(
     Ok(Answer { quest, told, text })
 }
 
-/// Writes the order to each ending as an event file, where a folder is given.
-fn write_orders<R: Files>(
-    rt: &R,
+/// Writes the order to each ending as an event file, where they are to be written.
+fn write_orders<F: Folder>(
     alloc: Global,
-    folder: Option<&str>,
+    folder: &mut F,
+    filed: bool,
     answer: &Answer,
 ) -> Result<(), Status>
-    ensures { IfErr result IsUnfiled }
+    ensures filed { let report = report_of answer.now.quest.subject answer.now.told in
+        OnOk result (Grows (F.written folder.old) (F.written folder.new) (files_in filed report)) }
+    ensures unfiled { IfErr result (IsUnfiled (Rose (F.faults folder.old) (F.faults folder.new))) }
 {
-    let Some(folder) = folder else {
+    if !filed {
         return Ok(());
-    };
-    let quest = &answer.quest;
+    }
+    let lines = answer.quest.before();
     let endings = &answer.told.endings.list;
-    write_files(rt, alloc, folder, quest.before(), quest.once(), endings)
+    write_files(alloc, folder, lines, answer.quest.once(), endings)
 }
 
 /// Searches what the words ask for, and tells what was found. It ends as `Ends` says: exactly the text of a search of that image, those
 /// events and those orders is written, or nothing but where the sink fails.
-pub fn run<R: Files + Clock, H: Host, K: Sink, N: Sink>(
-    rt: &R,
+pub fn run<H: Host, F: Folder, K: Sink, W: Watch>(
     alloc: Global,
     words: Words<'_>,
     host: &mut H,
+    folder: &mut F,
     out: &mut K,
-    notes: &mut N,
-    is_seen: bool,
+    watch: &mut W,
 ) -> Outcome
     requires { length words.once.items ≤ 255 }
-    ensures { let sides = sides_of H.Host K.Sink host.old host.new out.old out.new in
+    ensures { let sides = sides_of H.Host K.Sink F.Folder host.old host.new out.old out.new folder.old folder.new in
         Ends ⟦<[u8; 32] as Ord>⟧.cmp (command_in words.entry) sides result }
 {
-    let folder = words.folder;
+    let filed = words.folder.is_some();
     let one = words.one;
-    let mut teller = Teller::new(rt, notes, is_seen);
-    let answer = match search_words(alloc, host, words, &mut teller) {
+    let answer = match search_words(alloc, host, words, watch) {
         Ok(answer) => answer,
         Err(status) => return Outcome::Ended(status),
     };
-    match write_orders(rt, alloc, folder, &answer) {
+    match write_orders(alloc, folder, filed, &answer) {
         Ok(()) => {}
         Err(status) => return Outcome::Ended(status),
     }

@@ -1,6 +1,7 @@
 //! The words of the command line.
 
-ghost use Rattle.std.specs.Prelude.{◌≤◌, IfOk, IfSome, length};
+ghost use Rattle.std.specs.Prelude.{◌≡◌, ◌≤◌, IfOk, IfSome, OnOk, Some, length};
+ghost use Rattle.xousorders.specs.Words.{IsName, is_option as is_option_word};
 
 use event_text::read_digits;
 use std::alloc::Global;
@@ -85,7 +86,9 @@ fn set(to: &mut u32, number: Option<u32>) -> Result<(), Unread> {
 }
 
 /// A name is set, where none was yet.
-fn name<'a>(to: &mut Option<&'a str>, word: &'a str) -> Result<(), Unread> {
+fn name<'a>(to: &mut Option<&'a str>, word: &'a str) -> Result<(), Unread>
+    ensures { OnOk result (to.new ≡ Some word.entry) }
+{
     if to.is_some() {
         return Err(Unread::Usage);
     }
@@ -111,6 +114,7 @@ fn take<'a>(words: &mut Words<'a>, flag: Flag, word: &'a str) -> Result<(), Unre
         Flag::Steps => set(&mut words.steps, number(word, 1, STEP_LIMIT)),
         Flag::States => set(&mut words.states, number(word, 1, u32::MAX)),
         Flag::From => name(&mut words.before, word),
+        Flag::Write if word.is_empty() => Err(Unread::Usage),
         Flag::Write => name(&mut words.folder, word),
         Flag::Irq => add(
             &mut words.once,
@@ -123,15 +127,27 @@ fn take<'a>(words: &mut Words<'a>, flag: Flag, word: &'a str) -> Result<(), Unre
     }
 }
 
-/// A word that follows no flag is taken.
+/// Whether a word is an option: it begins with two dashes.
+fn is_option(word: &str) -> bool
+    ensures { result ≡ is_option_word word.now }
+{
+    word.as_bytes().starts_with(b"--")
+}
+
+/// A word that follows no flag is taken. One that is an option is no name of an image.
 fn take_alone<'a>(
     words: &mut Words<'a>,
     image: &mut Option<&'a str>,
     word: &'a str,
-) -> Result<(), Unread> {
+) -> Result<(), Unread>
+    ensures { IfSome image.old (λ name. IsName name.now) → OnOk result (IfSome image.new (λ name. IsName name.now)) }
+{
     if word == "--one" {
         words.one = true;
         return Ok(());
+    }
+    if is_option(word) {
+        return Err(Unread::Usage);
     }
     name(image, word)
 }
@@ -152,7 +168,8 @@ fn no_words<'a>(alloc: Global) -> Words<'a> {
 
 /// Reads the words. Few events may come once.
 pub fn read_words<'a>(alloc: Global, all: &'a [String]) -> Result<Words<'a>, Unread>
-    ensures { IfOk result (λ words. length words.once.items ≤ 255) }
+    ensures few { IfOk result (λ words. length words.once.items ≤ 255) }
+    ensures named { IfOk result (λ words. IsName words.image.now) }
 {
     let mut words = no_words(alloc);
     let mut image = None;

@@ -4,7 +4,7 @@ import re
 from collections import Counter
 from dataclasses import dataclass
 
-HEAD = re.compile(r"states (\d+) slices (\d+) (whole|cut)").fullmatch
+HEAD = re.compile(r"states (\d+) slices (\d+) (whole|cut)(?: within (\d+) steps)?").fullmatch
 ENDING = re.compile(r"ending (\d+): (console .*); (\d+ nodes?); (\d+ slices?)").fullmatch
 GONE = re.compile(r"(\d+) gone").fullmatch
 
@@ -46,9 +46,11 @@ class Found:
     slices: int
     is_whole: bool
     endings: tuple
+    within: int | None = None
 
     def lines(self):
-        told = [f"states {self.states} slices {self.slices} {'whole' if self.is_whole else 'cut'}"]
+        within = "" if self.within is None else f" within {self.within} steps"
+        told = [f"states {self.states} slices {self.slices} {'whole' if self.is_whole else 'cut'}{within}"]
         for number, ending in enumerate(self.endings, 1):
             told.append(f"ending {number}: {ending.seen}; {counted(ending.nodes, 'node')}; {counted(ending.slices, 'slice')}")
         return [*told, counted(len(self.endings), "ending")]
@@ -74,12 +76,12 @@ def read(lines):
     often = Counter(ending.seen for ending in endings).most_common(1)
     if often and often[0][1] > 1:
         raise ValueError(f"an ending is told twice: {often[0][0]!r}")
-    return Found(int(head[1]), int(head[2]), head[3] == "whole", endings)
+    return Found(int(head[1]), int(head[2]), head[3] == "whole", endings, head[4] and int(head[4]))
 
 
 def differences(wanted, found):
     """In what two searches differ, as texts; in which order endings are told doesn't matter."""
-    for name in ("states", "slices", "is_whole"):
+    for name in ("states", "slices", "is_whole", "within"):
         pair = getattr(wanted, name), getattr(found, name)
         if pair[0] != pair[1]:
             yield f"{name}: {pair[1]} in place of {pair[0]}"

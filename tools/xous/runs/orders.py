@@ -176,7 +176,8 @@ class Search:
         for node in self.endings:
             alike.setdefault(seen(node), []).append(node)
         endings = tuple(found.Ending(text, len(nodes), nodes[0].slices) for text, nodes in alike.items())
-        return found.Found(len(self.nodes), self.slices, self.whole, endings), [nodes[0] for nodes in alike.values()]
+        within = self.asked.steps if self.counts else None
+        return found.Found(len(self.nodes), self.slices, self.whole, endings, within), [nodes[0] for nodes in alike.values()]
 
 
 def seen(node):

@@ -11,14 +11,13 @@ use Rattle.graph_search.specs.Paths.{labels_to}
 use Rattle.graph_search.specs.Told.{IsFound, IsTold}
 use Rattle.order_model.specs.declared.moves.Move.{Move}
 use Rattle.order_model.specs.declared.moves.Note.{Note}
-use Rattle.order_model.specs.Endings.{is_ending}
 use Rattle.order_model.specs.Moves.{Asked, Bound, Point, Unbounded, UpTo, leads, leads_by}
 use Rattle.order_model.specs.Nodes.{after, goes_on, node_of, set_aside}
 use Rattle.order_model.specs.Orders.{GoOn}
 use Rattle.order_model.specs.Searches.{IsPointTold, IsSound, IsToldOrder, IsWhole, LeadsTo, OrdersAreTold, PathsAreOrders, Telling}
 use Rattle.order_model.specs.Searches.{ToldAreOrders, note_of}
 use Rattle.order_model.proofs.Moving.NodeLemmas.{nodes_lead_alike}
-use Rattle.order_model.proofs.Moving.SeenLemmas.{nodes_are_seen_alike}
+use Rattle.order_model.proofs.Moving.SeenLemmas.{note_alike}
 use Rattle.order_model.proofs.Moving.PathLemmas.{move_keeps, orders_are_paths}
 
 -- the test holds where there is a value behind it
@@ -101,10 +100,10 @@ module _ (asked : Asked) where
     -- a point whose node is told, and its note
     noted : (sound : IsSound t) (number : ℕ) (p : Point) (note : Note)
         → IsFound (after asked) (node_of asked start) edges number (node_of asked p) → slice_get notes number ≡ Some note
-        → (goes_on asked.bound p.state ≡ true) × (note ≡ note_of (is_ending asked p.state))
+        → (goes_on asked.bound p.state ≡ true) × (note ≡ note_of asked p.state)
     noted sound number p note found is =
         let right = sound.noted number (node_of asked p) note found is in
-        (sym (goes_on_aside asked.bound p.state) ∙ right.goes_on, right.is ∙ ap note_of (nodes_are_seen_alike asked p).ending)
+        (sym (goes_on_aside asked.bound p.state) ∙ right.goes_on, right.is ∙ note_alike asked p)
 
     told_order : Matched start.state → IsSound t → (number : ℕ) → number ≤ length edges → IsToldOrder t number
     told_order h sound number within =

@@ -1,7 +1,7 @@
 use Rattle.std.proofs.Common.{◌≡◌, ◌≤◌, ◌+◌, length, ◌∙◌, sym, ap, subst, arith}
 use Rattle.graph_search.specs.Searching.{Searched}
 use Rattle.graph_search.specs.Told.{Tells}
-use Rattle.graph_search.proofs.WholeLemmas.{only_key, searched_start, tells_all, tells_start}
+use Rattle.graph_search.proofs.WholeLemmas.{key_there, only_key, searched_start, tells_all, tells_start}
 use Rattle.graph_search.proofs.searching.go_on.Goals as goal
 
 pub returns-in-Err-Memory-clause-sound : goal.returns-in-Err-Memory-clause-sound
@@ -29,7 +29,8 @@ loop-alloc-init g c =
       kept = c.first.ensures.kept;
       searched = searched_start (g.S.Space.after at) (g.S.Space.IsKey at) (g.S.Space.IsNote at) g.S.Key.Ord.cmp (g.S.Space.start at) c.args.search.now.edges.items c.args.search.now.notes.items
           c.insert.new.self c.in-Ok.key c.requires.edges c.requires.notes
-          (only_key g.S.Key.Ord.cmp c.args.search.now.seen c.insert.new.self c.in-Ok.key c.requires.seen c.in-Ok-insert.ensures.updates) c.in-Ok.ensures.key;
+          (only_key g.S.Key.Ord.cmp c.args.search.now.seen c.insert.new.self c.in-Ok.key c.requires.seen c.in-Ok-insert.ensures.updates)
+          (key_there g.S.Key.Ord.cmp c.args.search.now.seen c.insert.new.self c.in-Ok.key c.in-Ok-insert.ensures.updates) c.in-Ok.ensures.key;
       room = (let none : length c.args.search.now.edges.items ≡ 0 = ap length c.requires.edges in omega (arith, none));
     }
 

@@ -1,18 +1,16 @@
 use Rattle.std.proofs.Common.{◌≡◌, ◌++◌, ℕ, Bool, List, sym, ap, ◌∙◌}
 use Rattle.std.specs.Prelude.{map}
-use Rattle.order_model.specs.Endings.{are_none}
+use Rattle.order_model.specs.Endings.{turns_at}
 use Rattle.order_model.specs.Moves.{Asked}
 use Rattle.order_model.specs.Nodes.{goes_on}
-use Rattle.order_model.specs.Searches.{note_of}
 use Rattle.order_model.specs.declared.choices.Choice.{Choice}
 use Rattle.order_model.specs.declared.choices.Choice.TheVariants.{Comes, Goes}
 use Rattle.order_model.specs.Asking.{asked_of, came_of}
-use Rattle.order_model.specs.Choosing.{events_at, turns_at}
-use Rattle.order_model.proofs.ChoiceLemmas.{ending_is}
+use Rattle.order_model.specs.Choosing.{events_at}
 use Rattle.order_model.proofs.choices.see.Goals as goal
 
-pub returns : goal.returns
-returns c p stand =
+pub returns-clause-seen : goal.returns-clause-seen
+returns-clause-seen c p stand =
     let asked : Asked = asked_of c.args.orders.now in
     let came : (k : ℕ) → came_of c.deref-3.result.now k ≡ p.came k =
     λ k. ap (λ (xs : List Bool). came_of xs k) c.deref-3.ensures.value ∙ stand.came k in
@@ -25,5 +23,10 @@ returns c p stand =
           c.in-Ok-add_events.ensures p came
           ∙ ap (λ (xs : List Choice). xs ++ map Comes (events_at asked p))
           (c.in-Ok-add_turns.ensures ∙ (λ i. c.new-choices.ensures.items i ++ map Goes (turns i)));
-      note_is = c.note_of-note.ensures ∙ ap note_of (c.is_none.ensures ∙ (ap are_none none ∙ ending_is asked p.state));
+      note_is = c.note_of-note.ensures asked p.state none;
     }
+
+pub returns-then-not-go_on-clause-timer : goal.returns-then-not-go_on-clause-timer
+returns-then-not-go_on-clause-timer c p stand is =
+    let asked : Asked = asked_of c.args.orders.now in
+    sym (ap (goes_on asked.bound) stand.rows) ∙ (sym (c.go_on.ensures stand.file) ∙ c.if-not-go_on.true)

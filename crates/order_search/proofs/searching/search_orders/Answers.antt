@@ -1,13 +1,25 @@
-use Rattle.order_search.proofs.SpaceLemmas.{if_ok, if_ok_three, sound_orders, whole_orders}
+use Rattle.std.proofs.Common.{IfErr, IfOk, subst, sym}
+use Rattle.order_search.specs.declared.subject.Subject.{Subject}
+use Rattle.order_search.specs.Faults.{IsFault}
+use Rattle.order_search.specs.Found.{FindsAllOrders, FindsNodes, finding_of}
+use Rattle.order_search.proofs.SpaceLemmas.{finds, if_ok_three, whole_orders}
 use Rattle.order_search.proofs.searching.search_orders.Goals as goal
 
-pub returns-clause-sound : goal.returns-clause-sound
-returns-clause-sound g c =
-    if_ok c.search.result _ _ (λ found sound. sound_orders c.args.quest.now.subject c.args.quest.now.lawful c.args.quest.now.can_start found.edges.items found.notes.items sound)
-    c.search.ensures.sound
+pub returns-clause-nodes : goal.returns-clause-nodes
+returns-clause-nodes g c =
+    let quest = c.args.quest.now in
+    subst (λ (s : Subject). IfOk c.search.result (λ found. FindsNodes c.args.limit (finding_of s found))) (sym c.search.ensures.kept)
+    (finds quest.subject quest.lawful quest.can_start c.args.limit c.search.result c.search.ensures.sound c.search.ensures.once
+    c.search.ensures.within c.search.ensures.cut)
 
 pub returns-clause-whole : goal.returns-clause-whole
 returns-clause-whole g c =
-    if_ok_three c.search.result _ _ _ _
-    (λ found sound whole followed is tell. whole_orders c.args.quest.now.subject c.args.quest.now.lawful c.args.quest.now.can_start found.edges.items found.notes.items sound (whole is tell) (followed is))
-    c.search.ensures.sound c.search.ensures.whole c.search.ensures.followed
+    let quest = c.args.quest.now in
+    subst (λ (s : Subject). IfOk c.search.result (λ found. FindsAllOrders _ (finding_of s found))) (sym c.search.ensures.kept)
+    (if_ok_three c.search.result _ _ _ _
+    (λ found sound whole followed is tell. whole_orders quest.subject quest.lawful quest.can_start found.edges.items found.notes.items sound (whole is tell) (followed is))
+    c.search.ensures.sound c.search.ensures.whole c.search.ensures.followed)
+
+pub returns-clause-fault : goal.returns-clause-fault
+returns-clause-fault g c =
+    subst (λ (s : Subject). IfErr c.search.result (IsFault s)) (sym c.search.ensures.kept) c.search.ensures.fault

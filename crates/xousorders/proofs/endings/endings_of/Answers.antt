@@ -4,6 +4,8 @@ use Rattle.order_search.specs.declared.subject.Subject.{Subject}
 use Rattle.order_search.specs.Found.{TellsOrders, telling_of}
 use Rattle.order_search.specs.Quests.{searching_of}
 use Rattle.xousorders.specs.Endings.{AreEndings}
+use Rattle.xousorders.specs.Searched.{IsStopped}
+use Rattle.xousorders.proofs.CallLemmas.{exit_says, stopped_of}
 use Rattle.xousorders.proofs.EndingLemmas.{no_endings}
 use Rattle.xousorders.proofs.endings.endings_of.Goals as goal
 
@@ -38,3 +40,8 @@ returns-clause-all c =
     let done : c.loop-node.node ≡ length c.args.found.now.notes.items = omega arith in
     subst (λ n. AreEndings (telling_of (searching_of c.args.quest.now.subject) c.args.found.now.edges.items c.args.found.now.notes.items) n c.loop-node.endings)
     done c.loop-node.invariant.told
+
+pub returns-in_err-pass-clause-stopped : goal.returns-in_err-pass-clause-stopped
+returns-in_err-pass-clause-stopped c =
+    exit_says c.from_residual.result _ (IsStopped c.args.quest.now.subject) c.from_residual.ensures.1
+    (stopped_of _ c.args.quest.now.subject c.loop-node.invariant.subject _ c.in_err-pass.ensures.stopped)

@@ -49,3 +49,6 @@ returns-clause-adds c =
     (shown_there t c.args.node told _ _ c.new-seen.ensures.items
     (c.in_ok-put_seen.ensures told.last stand.file stand.rows (sym stand.console ∙ sym c.deref-3.ensures.value)))
     c.in_ok-add.ensures
+
+pub returns-in-Err-clause-stopped : goal.returns-in-Err-clause-stopped
+returns-in-Err-clause-stopped c = c.unplayed.ensures c.args.quest.now.subject c.in-Err.ensures.fault

@@ -1,6 +1,7 @@
 use Rattle.order_model.specs.Asking.{asked_of}
 use Rattle.order_search.specs.Quests.{IsKeyOf, searching_of, start_of}
 use Rattle.order_search.proofs.EdgeLemmas.{edge_of}
+use Rattle.order_search.proofs.FaultLemmas.{unchosen_caused}
 use Rattle.order_search.proofs.RunLemmas.{room_kept}
 use Rattle.order_search.proofs.quest.Quest.edge.Goals as goal
 
@@ -14,3 +15,7 @@ pub returns-in-Ok-key-clause-edge : goal.returns-in-Ok-key-clause-edge
 returns-in-Ok-key-clause-edge c p arrives =
     edge_of (IsKeyOf (searching_of c.args.self.now.subject)) (asked_of c.args.self.now.subject.orders) (start_of c.args.self.now.subject)
     c.args.path.now p _ _ _ arrives c.in_ok-run.ensures.arrives c.in-Ok.ensures.leads c.in-Ok-key.ensures.key
+
+pub returns-in-Err-clause-fault : goal.returns-in-Err-clause-fault
+returns-in-Err-clause-fault c =
+    unchosen_caused c.args.self.now.subject c.args.path.now _ c.in_ok-run.ensures.arrives c.in-Err.fault c.in-Err.ensures.fault
