@@ -1,8 +1,8 @@
 use Rattle.machine_laws.proofs.Histories.MomentLemmas.{history_is_run}
 use Rattle.machine_laws.specs.HistoryMoments.{moments_of}
-use Rattle.lifetime_laws.proofs.PromptLemmas.{leaves_in_time, travels_in_time}
-use Rattle.lifetime_laws.proofs.SchedulingLemmas.{steps_are_fair}
-use Rattle.lifetime_laws.proofs.SenderLemmas.{answered_in_time}
+use Rattle.lifetime_laws.proofs.Answering.PromptLemmas.{leaves_in_time, travels_in_time}
+use Rattle.lifetime_laws.proofs.Fairness.SchedulingLemmas.{steps_are_fair}
+use Rattle.lifetime_laws.proofs.Answering.SenderLemmas.{answered_in_time}
 use Rattle.lifetime_laws.proofs.answers.served_clients_are_answered.Goals as goal
 
 -- src/answers.rt

@@ -1,4 +1,4 @@
-use Rattle.lifetime_laws.proofs.ConnectingStepLemmas.{every_moment_connects, every_run_connects}
+use Rattle.lifetime_laws.proofs.Connecting.StepLemmas.{every_moment_connects, every_run_connects}
 use Rattle.lifetime_laws.proofs.connections.connections_come_of_own_calls.Goals as goal
 
 -- src/connections.rt

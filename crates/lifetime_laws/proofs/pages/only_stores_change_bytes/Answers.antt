@@ -1,4 +1,4 @@
-use Rattle.lifetime_laws.proofs.BytesLemmas.{bytes_pass}
+use Rattle.lifetime_laws.proofs.Lives.BytesLemmas.{bytes_pass}
 use Rattle.lifetime_laws.proofs.pages.only_stores_change_bytes.Goals as goal
 
 -- src/pages.rt

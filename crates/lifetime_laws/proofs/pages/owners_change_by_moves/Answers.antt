@@ -1,4 +1,4 @@
-use Rattle.lifetime_laws.proofs.OwnerLemmas.{every_owner_balances, gains_by_moves, loses_by_moves}
+use Rattle.lifetime_laws.proofs.Lives.OwnerLemmas.{every_owner_balances, gains_by_moves, loses_by_moves}
 use Rattle.lifetime_laws.proofs.pages.owners_change_by_moves.Goals as goal
 
 -- src/pages.rt

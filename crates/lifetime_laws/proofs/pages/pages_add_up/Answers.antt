@@ -1,4 +1,4 @@
-use Rattle.lifetime_laws.proofs.BalanceLemmas.{every_history_balances, every_run_balances}
+use Rattle.lifetime_laws.proofs.Lives.BalanceLemmas.{every_history_balances, every_run_balances}
 use Rattle.lifetime_laws.proofs.pages.pages_add_up.Goals as goal
 
 -- src/pages.rt

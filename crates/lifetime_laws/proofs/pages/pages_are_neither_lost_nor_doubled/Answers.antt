@@ -1,5 +1,5 @@
-use Rattle.lifetime_laws.proofs.RunLemmas.{every_history_lives, every_page_lives, every_run_lives}
-use Rattle.lifetime_laws.proofs.StepLemmas.{every_moment_lives}
+use Rattle.lifetime_laws.proofs.Lives.RunLemmas.{every_history_lives, every_page_lives, every_run_lives}
+use Rattle.lifetime_laws.proofs.Lives.StepLemmas.{every_moment_lives}
 use Rattle.lifetime_laws.proofs.pages.pages_are_neither_lost_nor_doubled.Goals as goal
 
 -- src/pages.rt

@@ -1,4 +1,4 @@
-use Rattle.lifetime_laws.proofs.PlantedLemmas.{doubling_refused, forgetting_refused, losing_refused, misplacing_refused}
+use Rattle.lifetime_laws.proofs.Lives.PlantedLemmas.{doubling_refused, forgetting_refused, losing_refused, misplacing_refused}
 use Rattle.lifetime_laws.proofs.pages.wrong_kernels_are_refused.Goals as goal
 
 -- src/pages.rt

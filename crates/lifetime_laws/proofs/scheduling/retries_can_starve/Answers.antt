@@ -1,4 +1,4 @@
-use Rattle.lifetime_laws.proofs.PassingLemmas.{retries_count, retries_starve}
+use Rattle.lifetime_laws.proofs.Fairness.PassingLemmas.{retries_count, retries_starve}
 use Rattle.lifetime_laws.proofs.scheduling.retries_can_starve.Goals as goal
 
 -- src/scheduling.rt

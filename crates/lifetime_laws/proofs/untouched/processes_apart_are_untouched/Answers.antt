@@ -1,4 +1,4 @@
-use Rattle.lifetime_laws.proofs.UntouchedRunLemmas.{others_leave_it, runs_leave_it}
+use Rattle.lifetime_laws.proofs.Apart.RunLemmas.{others_leave_it, runs_leave_it}
 use Rattle.lifetime_laws.proofs.untouched.processes_apart_are_untouched.Goals as goal
 
 -- src/untouched.rt

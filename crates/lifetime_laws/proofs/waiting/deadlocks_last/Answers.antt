@@ -1,4 +1,4 @@
-use Rattle.lifetime_laws.proofs.WaitingRunLemmas.{deadlock_stays, deadlocks_last}
+use Rattle.lifetime_laws.proofs.Deadlocks.RunLemmas.{deadlock_stays, deadlocks_last}
 use Rattle.lifetime_laws.proofs.waiting.deadlocks_last.Goals as goal
 
 -- src/waiting.rt

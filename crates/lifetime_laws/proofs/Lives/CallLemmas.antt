@@ -31,12 +31,12 @@ use Rattle.call_effects.proofs.ServedLemmas.{OfPlan, OfServed, done}
 use Rattle.loan_laws.proofs.Fates.LikeLemmas.{IsLike, call_like, like_both, served_like}
 use Rattle.loan_laws.proofs.Fates.ServedFateLemmas.{IsCaller}
 use Rattle.lifetime_laws.specs.Lives.{PagesLive}
-use Rattle.lifetime_laws.proofs.DeathLemmas.{death_lives}
-use Rattle.lifetime_laws.proofs.LoanCallLemmas.{destroy_lives, forward_lives, return_memory_lives}
-use Rattle.lifetime_laws.proofs.MemoryLemmas.{decrease_lives, increase_lives, map_lives, unmap_lives, update_lives}
-use Rattle.lifetime_laws.proofs.SendLemmas.{send_lives, try_send_lives}
-use Rattle.lifetime_laws.proofs.ServedLemmas.{HasServedLife, stepped}
-use Rattle.lifetime_laws.proofs.TurnLemmas.{left_lives}
+use Rattle.lifetime_laws.proofs.Lives.DeathLemmas.{death_lives}
+use Rattle.lifetime_laws.proofs.Lives.LoanCallLemmas.{destroy_lives, forward_lives, return_memory_lives}
+use Rattle.lifetime_laws.proofs.Lives.MemoryLemmas.{decrease_lives, increase_lives, map_lives, unmap_lives, update_lives}
+use Rattle.lifetime_laws.proofs.Lives.SendLemmas.{send_lives, try_send_lives}
+use Rattle.lifetime_laws.proofs.Lives.ServedLemmas.{HasServedLife, stepped}
+use Rattle.lifetime_laws.proofs.Lives.TurnLemmas.{left_lives}
 
 refused_same : (m : Machine) (who : ThreadId) (error : XousError) → (call_settled (turned_to who m) (Refused error)).machine.ledger ≡ m.ledger
 unfolding call_settled

@@ -17,10 +17,10 @@ use Rattle.lifetime_laws.specs.Deeds.{Bereft, Forwarded, GivenBack, Lent, Moved,
 use Rattle.lifetime_laws.specs.Lives.{PagesLive}
 use Rattle.lifetime_laws.specs.Owners.{EveryOwnerBalances, GainsByMoves, IsCountedOf, LosesByMoves, gained_in, is_owned, lost_in}
 use Rattle.lifetime_laws.specs.Owners.{owned_pages}
-use Rattle.lifetime_laws.proofs.BalanceLemmas.{split_names, stands_lies}
-use Rattle.lifetime_laws.proofs.CountLemmas.{ArePaired, paired_counts}
-use Rattle.lifetime_laws.proofs.RunLemmas.{moment_lives}
-use Rattle.lifetime_laws.proofs.ServedLemmas.{same_pid}
+use Rattle.lifetime_laws.proofs.Lives.BalanceLemmas.{split_names, stands_lies}
+use Rattle.lifetime_laws.proofs.Lives.CountLemmas.{ArePaired, paired_counts}
+use Rattle.lifetime_laws.proofs.Lives.RunLemmas.{moment_lives}
+use Rattle.lifetime_laws.proofs.Lives.ServedLemmas.{same_pid}
 
 -- ---- one page
 

@@ -44,9 +44,9 @@ use Rattle.lifetime_laws.specs.Deeds.{Allocated, Bereft, Deed, GivenBack, GivenU
 use Rattle.lifetime_laws.specs.Deeds.{Returning, Stays, StaysOrphan, stands}
 use Rattle.lifetime_laws.specs.Lives.{LivesThrough, PagesLive}
 use Rattle.lifetime_laws.specs.Tracing.{AreOne}
-use Rattle.lifetime_laws.proofs.EndedLemmas.{loan_ended, orphan_ended, out_of_loan}
-use Rattle.lifetime_laws.proofs.OrphanLemmas.{Arises, arisen, dead, dead_home, dead_orphan, left, left_home, orphan_from}
-use Rattle.lifetime_laws.proofs.OverLemmas.{loan_over, none_lent}
+use Rattle.lifetime_laws.proofs.Lives.EndedLemmas.{loan_ended, orphan_ended, out_of_loan}
+use Rattle.lifetime_laws.proofs.Lives.OrphanLemmas.{Arises, arisen, dead, dead_home, dead_orphan, left, left_home, orphan_from}
+use Rattle.lifetime_laws.proofs.Lives.OverLemmas.{loan_over, none_lent}
 
 -- `before` is the state before. The process dies in one that differs from it in the cursor and the reservation at most.
 module _ (before : Machine) (first : Matched before) (cursor : ThreadId) (reserved : Option Reservation) (pid : Pid)

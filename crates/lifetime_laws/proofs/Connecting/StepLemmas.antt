@@ -27,7 +27,7 @@ use Rattle.loan_laws.proofs.Fates.LikeLemmas.{settled_like, step_like}
 use Rattle.confidentiality_laws.proofs.CauseCaseLemmas.{ActCase, CauseCase, EndCase, EndsHandler, EndsThread, Instructs, IsLast, Kills, LeavesOthers, Raises, Rests, StartCase, Starts}
 use Rattle.confidentiality_laws.proofs.CauseCaseLemmas.{StartsNone, Steps, case_of, end_of, start_of}
 use Rattle.lifetime_laws.specs.Connecting.{ConnectsByOwnCalls, EveryMomentConnectsSo, EveryRunConnectsSo, IsConnecting, is_connected}
-use Rattle.lifetime_laws.proofs.ConnectingCallLemmas.{HasOnlyOld, call_connects, dead_old, old_connects, same_old}
+use Rattle.lifetime_laws.proofs.Connecting.CallLemmas.{HasOnlyOld, call_connects, dead_old, old_connects, same_old}
 use Rattle.confidentiality_laws.specs.TwoRuns.{records_by}
 use Rattle.machine_model.specs.Runs.Moments.{Cause, caused}
 use Rattle.machine_model.specs.State.Changes.{Change, Told}

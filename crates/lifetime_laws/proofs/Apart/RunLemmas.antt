@@ -25,10 +25,10 @@ use Rattle.noninterference_laws.specs.Causes.{LeavesAll, StepKeepsOthers, by_ste
 use Rattle.noninterference_laws.specs.Fates.{Doing, Gains, Loses, MadeCall, Own, ServerFate, ServerStays}
 use Rattle.noninterference_laws.specs.KeptOthers.{KeepsOthers}
 use Rattle.noninterference_laws.proofs.StepLemmas.{all_keep}
-use Rattle.lifetime_laws.proofs.StepLemmas.{every_moment_lives}
+use Rattle.lifetime_laws.proofs.Lives.StepLemmas.{every_moment_lives}
 use Rattle.lifetime_laws.specs.Untouched.{IsOfOthers, IsUntouched, OthersLeaveIt, RunsOfOthersLeaveIt, SharesNothing}
-use Rattle.lifetime_laws.proofs.UntouchedPageLemmas.{home_stays, none_comes, page_stays}
-use Rattle.lifetime_laws.proofs.UntouchedThreadLemmas.{not_started, thread_stays}
+use Rattle.lifetime_laws.proofs.Apart.PageLemmas.{home_stays, none_comes, page_stays}
+use Rattle.lifetime_laws.proofs.Apart.ThreadLemmas.{not_started, thread_stays}
 
 abbrev IsLeft : Pid → Machine → Machine → Type 0
 IsLeft pid m after = IsUntouched pid m after × SharesNothing pid after

@@ -35,13 +35,13 @@ use Rattle.machine_model.specs.Stepping.Interrupts.{cursor_after, delivered}
 use Rattle.machine_model.specs.Stepping.Step.{Recorded, acted_if_there, after, counted, ends_handler, ends_thread, executed, performed, record_of, step}
 use Rattle.machine_model.specs.Stepping.Timer.{is_due, raised_by_timer, stands_after_irq, timed, timed_if, timer_change, with_irq, with_irq_if}
 use Rattle.transcript_laws.specs.Turns.{IsOrderKept, KeepsOrder, StartsNoOther}
-use Rattle.lifetime_laws.proofs.SteppedLemmas.{step_is}
+use Rattle.lifetime_laws.proofs.Fairness.SteppedLemmas.{step_is}
 use Rattle.transcript_laws.proofs.Serving.ServedStepLemmas.{timed_tells}
 use Rattle.transcript_laws.proofs.Turning.FairLemmas.{Caused, Ended, Link, link}
 use Rattle.transcript_laws.proofs.Turning.FootprintLemmas.{unnamed_by}
 use Rattle.transcript_laws.proofs.Turning.GoingLemmas.{delivered_stays}
 use Rattle.lifetime_laws.specs.Scheduling.{AreTicksUpTo, KeepsTurn, LosesTurn, NobodyYields, WaitsInLine}
-use Rattle.lifetime_laws.proofs.TickedLemmas.{ByKind, Ticked, history_ticked}
+use Rattle.lifetime_laws.proofs.Fairness.TickedLemmas.{ByKind, Ticked, history_ticked}
 
 -- each of what is told keeps the turn
 abbrev Quiet : List What → Type 0

@@ -27,9 +27,9 @@ use Rattle.transcript_laws.proofs.Serving.TakenLemmas.{told_record}
 use Rattle.transcript_laws.proofs.Turning.FairLemmas.{Caused, Ended, Link, link}
 use Rattle.lifetime_laws.specs.Prompt.{ByDeath, ByReply, EndsWait, IsAnsweredIn, IsAnsweredInTime, IsServing, StaysAt, Workers, deadline}
 use Rattle.lifetime_laws.specs.Scheduling.{AreStepsFair}
-use Rattle.lifetime_laws.proofs.FreedLemmas.{freed_is_told}
-use Rattle.lifetime_laws.proofs.PromptLemmas.{leaves_in_time}
-use Rattle.lifetime_laws.proofs.WorkLemmas.{moment_counts}
+use Rattle.lifetime_laws.proofs.Answering.FreedLemmas.{freed_is_told}
+use Rattle.lifetime_laws.proofs.Answering.PromptLemmas.{leaves_in_time}
+use Rattle.lifetime_laws.proofs.Answering.WorkLemmas.{moment_counts}
 
 -- what holds of each record holds of whatever is told
 all_told : (P : What → Type 0) (records : List Rec) → All (λ (rec : Rec). P rec.what) records → (what : What)

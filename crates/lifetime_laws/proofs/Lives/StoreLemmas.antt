@@ -14,7 +14,7 @@ use Rattle.machine_model.specs.Runs.Moments.{Moment}
 use Rattle.machine_model.specs.State.Machine.{Machine}
 use Rattle.lifetime_laws.specs.Deeds.{Stored, Storing}
 use Rattle.lifetime_laws.specs.Lives.{PagesLive}
-use Rattle.lifetime_laws.proofs.TurnLemmas.{Empty, Lives, Turns, home_stays, orphan_stays, turn_lives}
+use Rattle.lifetime_laws.proofs.Lives.TurnLemmas.{Empty, Lives, Turns, home_stays, orphan_stays, turn_lives}
 
 module _ (m : Machine) (moment : Moment) (pid : Pid) (instruction : IsInstructionOf pid m moment) (store : IsOneStore pid m moment.machine.ledger) where
   abbrev after : Ledger

@@ -35,10 +35,10 @@ use Rattle.confidentiality_laws.proofs.Spreading.CauseLemmas.{irq_ledger}
 use Rattle.confidentiality_laws.proofs.CauseCaseLemmas.{ActCase, CauseCase, EndCase, EndsHandler, EndsThread, Instructs, IsLast, Kills, LeavesOthers, Raises, Rests, StartCase, Starts}
 use Rattle.confidentiality_laws.proofs.CauseCaseLemmas.{StartsNone, Steps, case_of, end_of, start_of}
 use Rattle.lifetime_laws.specs.Lives.{EveryMomentLives, PagesLive}
-use Rattle.lifetime_laws.proofs.CallLemmas.{call_lives}
-use Rattle.lifetime_laws.proofs.DeathLemmas.{death_lives}
-use Rattle.lifetime_laws.proofs.StoreLemmas.{stored_lives}
-use Rattle.lifetime_laws.proofs.TurnLemmas.{left_lives}
+use Rattle.lifetime_laws.proofs.Lives.CallLemmas.{call_lives}
+use Rattle.lifetime_laws.proofs.Lives.DeathLemmas.{death_lives}
+use Rattle.lifetime_laws.proofs.Lives.StoreLemmas.{stored_lives}
+use Rattle.lifetime_laws.proofs.Lives.TurnLemmas.{left_lives}
 use Rattle.confidentiality_laws.specs.TwoRuns.{records_by}
 use Rattle.machine_model.specs.Runs.Moments.{caused}
 use Rattle.machine_model.specs.State.Changes.{Change, Told}

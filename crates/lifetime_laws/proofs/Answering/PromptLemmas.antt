@@ -22,9 +22,9 @@ use Rattle.transcript_laws.proofs.Serving.OrderLemmas.{queued_listed}
 use Rattle.lifetime_laws.specs.Prompt.{GoesOn, IsAtThrough, IsHeldAt, IsServing, LeavesInTime, Stays, Travels, TravelsInTime, Workers}
 use Rattle.lifetime_laws.specs.Prompt.{ahead_of, queue_at, steps_at_server, steps_of_travel, steps_of_work}
 use Rattle.lifetime_laws.specs.Scheduling.{AreStepsFair, IsInLine}
-use Rattle.lifetime_laws.proofs.HeldLemmas.{run_held}
-use Rattle.lifetime_laws.proofs.QueueLemmas.{Nears, head_is, head_is_other, no_more_ahead, run_nears}
-use Rattle.lifetime_laws.proofs.WorkLemmas.{Does, does_steps, moment_counts}
+use Rattle.lifetime_laws.proofs.Answering.HeldLemmas.{run_held}
+use Rattle.lifetime_laws.proofs.Answering.QueueLemmas.{Nears, head_is, head_is_other, no_more_ahead, run_nears}
+use Rattle.lifetime_laws.proofs.Answering.WorkLemmas.{Does, does_steps, moment_counts}
 
 -- ---- the oldest queued
 

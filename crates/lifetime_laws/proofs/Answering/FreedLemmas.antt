@@ -41,9 +41,9 @@ use Rattle.machine_model.proofs.StepLemmas.{no_step}
 use Rattle.transcript_laws.specs.Answering.{awaits_reply, is_waiting}
 use Rattle.transcript_laws.specs.Serving.{DiesIn, told_by}
 use Rattle.transcript_laws.proofs.Following.StepLemmas.{numbered}
-use Rattle.lifetime_laws.proofs.SteppedLemmas.{step_is}
+use Rattle.lifetime_laws.proofs.Fairness.SteppedLemmas.{step_is}
 use Rattle.transcript_laws.proofs.Serving.ServedStepLemmas.{timed_tells}
-use Rattle.lifetime_laws.proofs.FreedCallLemmas.{Leaves, call_leaves}
+use Rattle.lifetime_laws.proofs.Answering.FreedCallLemmas.{Leaves, call_leaves}
 
 -- ---- threads that wait
 

@@ -26,8 +26,8 @@ use Rattle.noninterference_laws.proofs.OrphanLemmas.{at_servers_of}
 use Rattle.lifetime_laws.specs.Causes.{IsEndedBy, IsForwardedBy, ServerGone}
 use Rattle.lifetime_laws.specs.Deeds.{Forwarded, Forwarding, GivenBack, GivenUp, Nothing, Returning, Stays, StaysOrphan}
 use Rattle.lifetime_laws.specs.Lives.{PagesLive}
-use Rattle.lifetime_laws.proofs.ServedLemmas.{same_pid}
-use Rattle.lifetime_laws.proofs.TurnLemmas.{Empty, Goes, Lives, Turns, homes_live, turn_lives}
+use Rattle.lifetime_laws.proofs.Lives.ServedLemmas.{same_pid}
+use Rattle.lifetime_laws.proofs.Lives.TurnLemmas.{Empty, Goes, Lives, Turns, homes_live, turn_lives}
 
 -- ---- loans that end
 

@@ -20,8 +20,8 @@ use Rattle.machine_laws.proofs.Stepping.EveryStepLemmas.{every_cause_keeps}
 use Rattle.lifetime_laws.specs.Counts.{EveryHistoryBalances, EveryRunBalances, IsCounted, count_names, gone_in, made_in, page_count}
 use Rattle.lifetime_laws.specs.Deeds.{stands}
 use Rattle.lifetime_laws.specs.Lives.{PagesLive}
-use Rattle.lifetime_laws.proofs.CountLemmas.{ArePaired, paired_counts, place_of}
-use Rattle.lifetime_laws.proofs.RunLemmas.{moment_lives}
+use Rattle.lifetime_laws.proofs.Lives.CountLemmas.{ArePaired, paired_counts, place_of}
+use Rattle.lifetime_laws.proofs.Lives.RunLemmas.{moment_lives}
 
 -- ---- what stands lies at places of at most 64 processes
 

@@ -38,8 +38,8 @@ use Rattle.loan_laws.proofs.Fates.ServedFateLemmas.{IsCaller}
 use Rattle.lifetime_laws.specs.Causes.{IsCallOf}
 use Rattle.lifetime_laws.specs.Deeds.{Allocated, Deed, Grown, LivesOn, Mapped, Reduced, Reducing, Released, Shrunk, Unmapped}
 use Rattle.lifetime_laws.specs.Lives.{PagesLive}
-use Rattle.lifetime_laws.proofs.ServedLemmas.{HasServedLife, call_of, stepped, unlent_page}
-use Rattle.lifetime_laws.proofs.TurnLemmas.{Comes, Empty, Goes, Lives, Turns, home_stays, homes_live}
+use Rattle.lifetime_laws.proofs.Lives.ServedLemmas.{HasServedLife, call_of, stepped, unlent_page}
+use Rattle.lifetime_laws.proofs.Lives.TurnLemmas.{Comes, Empty, Goes, Lives, Turns, home_stays, homes_live}
 
 -- ---- pages of a set of places
 

@@ -12,7 +12,7 @@ use Rattle.lifetime_laws.specs.Deeds.{stands}
 use Rattle.lifetime_laws.specs.Lives.{EveryHistoryLives, EveryPageLives, EveryRunLives, HasLine, IsGone, IsLine, IsMade, LivesThrough}
 use Rattle.lifetime_laws.specs.Lives.{PagesLive, RunLives}
 use Rattle.lifetime_laws.specs.Tracing.{AreOne}
-use Rattle.lifetime_laws.proofs.StepLemmas.{every_moment_lives}
+use Rattle.lifetime_laws.proofs.Lives.StepLemmas.{every_moment_lives}
 
 -- where nothing happened each page is itself
 run_none : (start : Machine) → RunLives start []

@@ -40,10 +40,10 @@ use Rattle.loan_laws.proofs.Fates.ServedFateLemmas.{IsCaller, served_call}
 use Rattle.lifetime_laws.specs.Causes.{IsSentBy}
 use Rattle.lifetime_laws.specs.Deeds.{Lending, Lent}
 use Rattle.lifetime_laws.specs.Lives.{PagesLive}
-use Rattle.lifetime_laws.proofs.GivenLemmas.{given_lives}
-use Rattle.lifetime_laws.proofs.MemoryLemmas.{changed_lives}
-use Rattle.lifetime_laws.proofs.ServedLemmas.{HasServedLife, same_pid, stepped, unlent_page}
-use Rattle.lifetime_laws.proofs.TurnLemmas.{left_lives}
+use Rattle.lifetime_laws.proofs.Lives.GivenLemmas.{given_lives}
+use Rattle.lifetime_laws.proofs.Lives.MemoryLemmas.{changed_lives}
+use Rattle.lifetime_laws.proofs.Lives.ServedLemmas.{HasServedLife, same_pid, stepped, unlent_page}
+use Rattle.lifetime_laws.proofs.Lives.TurnLemmas.{left_lives}
 
 -- ---- the server that a connection leads to
 

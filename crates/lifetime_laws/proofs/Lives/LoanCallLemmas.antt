@@ -43,10 +43,10 @@ use Rattle.loan_laws.proofs.Fates.ServedFateLemmas.{IsCaller, served_call}
 use Rattle.noninterference_laws.proofs.OrphanLemmas.{at_its_server}
 use Rattle.lifetime_laws.specs.Causes.{IsEndedBy, IsForwardedBy, Returned}
 use Rattle.lifetime_laws.specs.Lives.{PagesLive}
-use Rattle.lifetime_laws.proofs.EndedLemmas.{ended_lives, loan_ended, orphan_ended, passed_lives}
-use Rattle.lifetime_laws.proofs.SendLemmas.{HasReceiver, receiver_of}
-use Rattle.lifetime_laws.proofs.ServedLemmas.{HasServedLife, call_of, same_pid, stepped}
-use Rattle.lifetime_laws.proofs.TurnLemmas.{left_lives}
+use Rattle.lifetime_laws.proofs.Lives.EndedLemmas.{ended_lives, loan_ended, orphan_ended, passed_lives}
+use Rattle.lifetime_laws.proofs.Lives.SendLemmas.{HasReceiver, receiver_of}
+use Rattle.lifetime_laws.proofs.Lives.ServedLemmas.{HasServedLife, call_of, same_pid, stepped}
+use Rattle.lifetime_laws.proofs.Lives.TurnLemmas.{left_lives}
 
 module _ (m : Machine) (who : ThreadId) (w : List ℕ) (h : Matched m) (calls : IsCaller m who w) where
   abbrev here : Machine

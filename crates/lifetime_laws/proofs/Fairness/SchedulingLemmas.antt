@@ -25,7 +25,7 @@ use Rattle.transcript_laws.proofs.Turning.FairLemmas.{IsSound}
 use Rattle.transcript_laws.proofs.Turning.NearingLemmas.{actor_nearer, cursor_acts, one_or_other, processes_stay, ready_known, step_nearer}
 use Rattle.transcript_laws.proofs.Turning.RoundLemmas.{far, next_nearer, same_far}
 use Rattle.lifetime_laws.specs.Scheduling.{AreStepsFair, AreTicksUpTo, IsInLine, IsTickEnd, StepsWithin, steps_ahead}
-use Rattle.lifetime_laws.proofs.TickedLemmas.{ByKind, Ticked, history_ticked}
+use Rattle.lifetime_laws.proofs.Fairness.TickedLemmas.{ByKind, Ticked, history_ticked}
 
 -- ---- how far the cursor is
 

@@ -25,8 +25,8 @@ use Rattle.noninterference_laws.specs.KeptOthers.{KeepsOthers}
 use Rattle.noninterference_laws.proofs.ClaimantLemmas.{kills_keep_claimants, steps_keep_threads}
 use Rattle.noninterference_laws.proofs.StepLemmas.{all_keep}
 use Rattle.lifetime_laws.specs.Waiting.{DeadlockStays, DeadlocksLast, IsAskedInside, StepLeavesInside, StillWait, WaitForOneAnother}
-use Rattle.lifetime_laws.proofs.WaitingAskedLemmas.{asked_still}
-use Rattle.lifetime_laws.proofs.WaitingAnswerLemmas.{not_started, thread_stays}
+use Rattle.lifetime_laws.proofs.Deadlocks.AskedLemmas.{asked_still}
+use Rattle.lifetime_laws.proofs.Deadlocks.AnswerLemmas.{not_started, thread_stays}
 
 -- ---- they wait still
 
