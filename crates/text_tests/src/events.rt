@@ -28,13 +28,11 @@ fn expect_answers(rt: &impl Abort, file: &[u8], piece: usize, answers: &[NextEve
     }
 }
 
-fn tick(steps: u32) -> NextEvent {
-    NextEvent::Event(Event::Tick(steps))
-}
-
-fn kill(pid: u8) -> NextEvent {
-    NextEvent::Event(Event::Kill(Pid(pid)))
-}
+const BAD_BEHIND_A_TICK: [NextEvent; 3] = [
+    NextEvent::Event(Event::Tick(1)),
+    NextEvent::Bad(2),
+    NextEvent::Bad(2),
+];
 
 /// The line after `tick 1` is bad, and it is answered again.
 fn expect_bad(rt: &impl Abort, line: &[u8]) {
@@ -47,39 +45,43 @@ fn expect_bad(rt: &impl Abort, line: &[u8]) {
     let taken = reader.feed(line);
     reader.finish();
     let told = [first, reader.next(), reader.next()];
-    let wanted = [tick(1), NextEvent::Bad(2), NextEvent::Bad(2)];
-    assert_eq!(rt; told, wanted);
+    assert_eq!(rt; told, BAD_BEHIND_A_TICK);
     expect(rt, before == 7 && taken > 0);
 }
 
+const EVENT_LINES: &[u8] =
+    b"tick 5\r\n   \n# note\n  kill   7  \ntick 4294967295\ntick 4294967296\n";
+
+const EVENTS: [NextEvent; 5] = [
+    NextEvent::Event(Event::Tick(5)),
+    NextEvent::Event(Event::Kill(Pid(7))),
+    NextEvent::Event(Event::Tick(4_294_967_295)),
+    NextEvent::Bad(6),
+    NextEvent::Bad(6),
+];
+
+const GOOD_LINES: &[u8] = b" # irq 1\nirq 31\npick 002  0255\r\ntick 0000000007\n\n\r\n  kill 3";
+
+const GOOD_EVENTS: [NextEvent; 6] = [
+    NextEvent::Event(Event::Irq(31)),
+    NextEvent::Event(Event::Pick(Pid(2), Tid(255))),
+    NextEvent::Event(Event::Tick(7)),
+    NextEvent::Event(Event::Kill(Pid(3))),
+    NextEvent::End,
+    NextEvent::End,
+];
+
 #[test]
 fn event_lines(rt: HostRuntime) {
-    let file = b"tick 5\r\n   \n# note\n  kill   7  \ntick 4294967295\ntick 4294967296\n";
-    let answers = [
-        tick(5),
-        kill(7),
-        tick(4_294_967_295),
-        NextEvent::Bad(6),
-        NextEvent::Bad(6),
-    ];
     for piece in [1usize, 7, 4096] {
-        expect_answers(&rt, file, piece, &answers);
+        expect_answers(&rt, EVENT_LINES, piece, &EVENTS);
     }
 }
 
 #[test]
 fn good_lines(rt: HostRuntime) {
-    let file = b" # irq 1\nirq 31\npick 002  0255\r\ntick 0000000007\n\n\r\n  kill 3";
-    let answers = [
-        NextEvent::Event(Event::Irq(31)),
-        NextEvent::Event(Event::Pick(Pid(2), Tid(255))),
-        tick(7),
-        kill(3),
-        NextEvent::End,
-        NextEvent::End,
-    ];
     for piece in [1usize, 7, 4096] {
-        expect_answers(&rt, file, piece, &answers);
+        expect_answers(&rt, GOOD_LINES, piece, &GOOD_EVENTS);
     }
 }
 

@@ -12,8 +12,6 @@ use std::process::Abort;
 use std::test::*;
 use xk_base::{NoMemory, Row};
 
-mod second;
-
 /// The row of tags of an image of one process, 52 bytes; a file has the sections' bytes behind it.
 const ONE_PROCESS: [u8; 52] = [
     0x58, 0x41, 0x72, 0x67, 0xca, 0x7f, 0x05, 0x00, 0x0d, 0x00, 0x00, 0x00, 0x01, 0x00, 0x00, 0x00,
@@ -52,30 +50,37 @@ struct Damage {
     fault: Option<(u8, u32)>,
 }
 
-const fn broken(at: u8, word: u32, fault: (u8, u32)) -> Damage {
-    Damage {
-        at,
-        word,
-        check: None,
-        fault: Some(fault),
-    }
+/// A word that is wrong by itself, and the fault that it makes.
+macro_rules! broken {
+    ($at:literal, $word:literal, $fault:expr) => {
+        Damage {
+            at: $at,
+            word: $word,
+            check: None,
+            fault: Some($fault),
+        }
+    };
 }
 
-const fn checked(at: u8, word: u32, check: (u8, u16), fault: Option<(u8, u32)>) -> Damage {
-    Damage {
-        at,
-        word,
-        check: Some(check),
-        fault,
-    }
+/// A word under a check number that was computed over it, and the fault or none.
+macro_rules! checked {
+    ($at:literal, $word:literal, $check:expr, $fault:expr) => {
+        Damage {
+            at: $at,
+            word: $word,
+            check: Some($check),
+            fault: $fault,
+        }
+    };
 }
+
+mod second;
 
 /// Writes bytes at a place, where there is room.
 fn put(image: &mut [u8], at: u8, bytes: &[u8]) {
-    for (i, byte) in bytes.iter().enumerate() {
-        let place = (at as usize).wrapping_add(i);
-        if place < image.len() {
-            image[place] = *byte;
+    if let Some(place) = image.get_mut(at as usize..) {
+        if bytes.len() <= place.len() {
+            place[..bytes.len()].copy_from_slice(bytes);
         }
     }
 }
@@ -140,9 +145,9 @@ fn args_of_one_process(rt: HostRuntime) -> Result<(), Fail> {
 fn names_of_two_processes(rt: HostRuntime) -> Result<(), Fail> {
     let args = read_args(rt.alloc(), &TWO_PROCESSES)?;
     expect_args(&rt, &args, 33, 2, 2);
-    let wanted: [(u32, &[u8]); 2] = [(2, b"init"), (3, b"shell")];
-    for (told, (pid, name)) in args.names.as_slice().iter().zip(wanted) {
-        expect_name(&rt, told, pid, name);
+    if let [first, second] = args.names.as_slice() {
+        expect_name(&rt, first, 2, b"init");
+        expect_name(&rt, second, 3, b"shell");
     }
     Ok(())
 }
@@ -161,53 +166,55 @@ fn cut_images(rt: HostRuntime) -> Result<(), Fail> {
     Ok(())
 }
 
+/// What damages `TWO_PROCESSES`.
+const DAMAGES: [Damage; 34] = [
+    // names and versions
+    broken!(0, 0x68724158, (NOT_XARG, 0)),
+    checked!(12, 3, (4, 0xf72d), Some((BAD_VERSION, 12))),
+    checked!(12, 2, (4, 0x793d), Some((BAD_INI, 40))),
+    checked!(28, 0x53707753, (4, 0xe31c), None),
+    checked!(40, 0x58696e49, (4, 0xe31c), None),
+    // check numbers, each with the length behind it
+    broken!(4, 0x00050000, (BAD_CHECK, 0)),
+    broken!(32, 0x00010000, (BAD_CHECK, 28)),
+    broken!(44, 0x00040000, (BAD_CHECK, 40)),
+    broken!(68, 0x00060000, (BAD_CHECK, 64)),
+    broken!(100, 0x00070000, (BAD_CHECK, 96)),
+    // lengths
+    broken!(4, 0x0000e31c, (NOT_XARG, 0)),
+    broken!(4, 0xffffe31c, (NOT_XARG, 0)),
+    broken!(32, 0x0000abff, (BAD_CHECK, 28)),
+    broken!(32, 0, (BAD_TOTAL, 36)),
+    broken!(32, 0xffffabff, (BAD_TOTAL, 28)),
+    broken!(44, 0, (BAD_INI, 40)),
+    broken!(44, 0xffff3049, (BAD_TOTAL, 40)),
+    broken!(100, 0xffff0de1, (BAD_TOTAL, 96)),
+    // the size of the row
+    checked!(8, 0, (4, 0x0f21), Some((BAD_TOTAL, 8))),
+    checked!(8, 0xffff_ffff, (4, 0xc7ec), Some((BAD_TOTAL, 8))),
+    checked!(8, 6, (4, 0xdcf7), Some((BAD_TOTAL, 8))),
+    checked!(8, 34, (4, 0x8af7), Some((BAD_TOTAL, 8))),
+    checked!(8, 32, (4, 0x3c4a), Some((BAD_TOTAL, 96))),
+    // RAM
+    checked!(16, 0xfffff000, (4, 0x5529), Some((BAD_RAM, 16))),
+    checked!(16, 0x40000800, (4, 0x5fb6), Some((BAD_RAM, 16))),
+    checked!(20, 0, (4, 0xe858), Some((BAD_RAM, 16))),
+    checked!(20, 0x04001000, (4, 0x7081), Some((BAD_RAM, 16))),
+    // section flags
+    checked!(84, 0x20001000, (68, 0x4ed2), Some((BAD_INI, 64))),
+    checked!(84, 0x1f001000, (68, 0xd057), None),
+    // names: a pid, and lengths
+    checked!(104, 0xffff_ffff, (100, 0x12f5), None),
+    checked!(108, 0, (100, 0x68e0), Some((BAD_NAMES, 96))),
+    checked!(108, 0xffff_ffff, (100, 0x14ee), Some((BAD_NAMES, 96))),
+    checked!(120, 8, (100, 0x872e), None),
+    checked!(120, 9, (100, 0x027b), Some((BAD_NAMES, 96))),
+];
+
 #[test]
 fn damaged_images(rt: HostRuntime) -> Result<(), Fail> {
-    let table = [
-        // names and versions
-        broken(0, 0x68724158, (NOT_XARG, 0)),
-        checked(12, 3, (4, 0xf72d), Some((BAD_VERSION, 12))),
-        checked(12, 2, (4, 0x793d), Some((BAD_INI, 40))),
-        checked(28, 0x53707753, (4, 0xe31c), None),
-        checked(40, 0x58696e49, (4, 0xe31c), None),
-        // check numbers, each with the length behind it
-        broken(4, 0x00050000, (BAD_CHECK, 0)),
-        broken(32, 0x00010000, (BAD_CHECK, 28)),
-        broken(44, 0x00040000, (BAD_CHECK, 40)),
-        broken(68, 0x00060000, (BAD_CHECK, 64)),
-        broken(100, 0x00070000, (BAD_CHECK, 96)),
-        // lengths
-        broken(4, 0x0000e31c, (NOT_XARG, 0)),
-        broken(4, 0xffffe31c, (NOT_XARG, 0)),
-        broken(32, 0x0000abff, (BAD_CHECK, 28)),
-        broken(32, 0, (BAD_TOTAL, 36)),
-        broken(32, 0xffffabff, (BAD_TOTAL, 28)),
-        broken(44, 0, (BAD_INI, 40)),
-        broken(44, 0xffff3049, (BAD_TOTAL, 40)),
-        broken(100, 0xffff0de1, (BAD_TOTAL, 96)),
-        // the size of the row
-        checked(8, 0, (4, 0x0f21), Some((BAD_TOTAL, 8))),
-        checked(8, 0xffff_ffff, (4, 0xc7ec), Some((BAD_TOTAL, 8))),
-        checked(8, 6, (4, 0xdcf7), Some((BAD_TOTAL, 8))),
-        checked(8, 34, (4, 0x8af7), Some((BAD_TOTAL, 8))),
-        checked(8, 32, (4, 0x3c4a), Some((BAD_TOTAL, 96))),
-        // RAM
-        checked(16, 0xfffff000, (4, 0x5529), Some((BAD_RAM, 16))),
-        checked(16, 0x40000800, (4, 0x5fb6), Some((BAD_RAM, 16))),
-        checked(20, 0, (4, 0xe858), Some((BAD_RAM, 16))),
-        checked(20, 0x04001000, (4, 0x7081), Some((BAD_RAM, 16))),
-        // section flags
-        checked(84, 0x20001000, (68, 0x4ed2), Some((BAD_INI, 64))),
-        checked(84, 0x1f001000, (68, 0xd057), None),
-        // names: a pid, and lengths
-        checked(104, 0xffff_ffff, (100, 0x12f5), None),
-        checked(108, 0, (100, 0x68e0), Some((BAD_NAMES, 96))),
-        checked(108, 0xffff_ffff, (100, 0x14ee), Some((BAD_NAMES, 96))),
-        checked(120, 8, (100, 0x872e), None),
-        checked(120, 9, (100, 0x027b), Some((BAD_NAMES, 96))),
-    ];
     expect_fault(&rt, rt.alloc(), &TWO_PROCESSES, None)?;
-    for damage in &table {
+    for damage in &DAMAGES {
         let mut image = TWO_PROCESSES;
         put(&mut image, damage.at, &damage.word.to_le_bytes());
         if let Some((at, check)) = damage.check {
@@ -249,9 +256,7 @@ fn args_of(words: u32, procs: Row<ProcArgs>, names: Row<ProcName>) -> Args {
 
 fn process_with(alloc: Global, load: u32, sections: &[Section]) -> Result<ProcArgs, NoMemory> {
     let mut row = Row::new(alloc);
-    for section in sections {
-        row.push(*section)?;
-    }
+    row.extend_from_slice(sections)?;
     Ok(ProcArgs {
         load,
         entry: 0x1_0000,
@@ -262,9 +267,7 @@ fn process_with(alloc: Global, load: u32, sections: &[Section]) -> Result<ProcAr
 
 fn name_of(alloc: Global, pid: u32, text: &[u8]) -> Result<ProcName, NoMemory> {
     let mut name = Row::new(alloc);
-    for byte in text {
-        name.push(*byte)?;
-    }
+    name.extend_from_slice(text)?;
     Ok(ProcName { pid, name })
 }
 
@@ -291,12 +294,15 @@ fn sizes_that_can_be_written(rt: HostRuntime) -> Result<(), Fail> {
     Ok(())
 }
 
+/// As many sections as a process may have.
+const SECTIONS: [Section; 32] = [CODE; 32];
+
 #[test]
 fn largest_row_is_read_back(rt: HostRuntime) -> Result<(), Fail> {
     let mut procs = Row::new(rt.alloc());
     let mut names = Row::new(rt.alloc());
     for i in 0..32u32 {
-        procs.push(process_with(rt.alloc(), i, &[CODE; 32])?)?;
+        procs.push(process_with(rt.alloc(), i, &SECTIONS)?)?;
         names.push(name_of(rt.alloc(), i + 2, b"process")?)?;
     }
     // 7 for the header, 2 + 2 + 64 for each process, 2 for the tag of names and 4 for each name
@@ -308,7 +314,7 @@ fn largest_row_is_read_back(rt: HostRuntime) -> Result<(), Fail> {
     expect_args(&rt, &again, 2313, 32, 32);
     let mut load = 0u32;
     for process in again.procs.as_slice() {
-        expect_process(&rt, process, load, &[CODE; 32]);
+        expect_process(&rt, process, load, &SECTIONS);
         load = load.wrapping_add(1);
     }
     let mut pid = 2u32;

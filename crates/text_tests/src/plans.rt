@@ -117,8 +117,10 @@ fn expect_fault(rt: &impl Abort, at: u32, told: Option<ArgFault>, wanted: Option
     assert_eq!(rt; told, wanted, "at {at:x}");
 }
 
-fn at_pid(what: u8) -> Option<ArgFault> {
-    Some(ArgFault { what, at: 2 })
+macro_rules! at_pid {
+    ($what:expr) => {
+        Some(ArgFault { what: $what, at: 2 })
+    };
 }
 
 /// The first run's section.
@@ -126,39 +128,43 @@ const CODE: Piece = (0x1_0000, 36, 4);
 /// A page of zeros behind it.
 const ZEROS: Piece = (0x1_1000, 4096, 3);
 
+/// A second section, and the fault of the plan with it.
+const SECOND_SECTIONS: [(Piece, Option<ArgFault>); 10] = [
+    ((0xFF_F000, 4096, 2), None),
+    ((0xFF_F000, 4097, 2), at_pid!(SECTION_OUTSIDE)),
+    ((0xF000, 4096, 2), at_pid!(SECTION_OUTSIDE)),
+    ((0xFFFF_F000, 0xFFFF_FFFF, 2), at_pid!(SECTION_OUTSIDE)),
+    ((0xFFFF_F000, 0, 0), None),
+    ((0xFFFF_F001, 0, 0), at_pid!(SECTION_MISALIGNED)),
+    ((0x1_0000, 1, 2), at_pid!(SECTIONS_OVERLAP)),
+    ((0x1_0000, 0, 2), None),
+    ((0x1_1000, 1, 2), None),
+    ((0x1_1000, 1, 0), at_pid!(LOAD_OUTSIDE)),
+];
+
 #[test]
 fn sections_have_their_faults(rt: HostRuntime) -> Result<(), Fail> {
-    let cases = [
-        ((0xFF_F000, 4096, 2), None),
-        ((0xFF_F000, 4097, 2), at_pid(SECTION_OUTSIDE)),
-        ((0xF000, 4096, 2), at_pid(SECTION_OUTSIDE)),
-        ((0xFFFF_F000, 0xFFFF_FFFF, 2), at_pid(SECTION_OUTSIDE)),
-        ((0xFFFF_F000, 0, 0), None),
-        ((0xFFFF_F001, 0, 0), at_pid(SECTION_MISALIGNED)),
-        ((0x1_0000, 1, 2), at_pid(SECTIONS_OVERLAP)),
-        ((0x1_0000, 0, 2), None),
-        ((0x1_1000, 1, 2), None),
-        ((0x1_1000, 1, 0), at_pid(LOAD_OUTSIDE)),
-    ];
-    for (second, want) in cases {
+    for (second, want) in SECOND_SECTIONS {
         let got = fault(rt.alloc(), (4096, 0), (52, 0x1_0000, None), CODE, second)?;
         expect_fault(&rt, second.0, got, want);
     }
     Ok(())
 }
 
+/// A load offset and an entry, and the fault of the plan with them.
+const STARTS: [((u32, u32), Option<ArgFault>); 7] = [
+    ((52, 0x1_0FFC), None),
+    ((51, 0x1_0000), at_pid!(LOAD_OUTSIDE)),
+    ((53, 0x1_0000), at_pid!(LOAD_OUTSIDE)),
+    ((0xFFFF_FFFF, 0x1_0000), at_pid!(LOAD_OUTSIDE)),
+    ((52, 0x1_0002), at_pid!(ENTRY_OUTSIDE)),
+    ((52, 0x1_1000), at_pid!(ENTRY_OUTSIDE)),
+    ((52, 0xFFFF_FFFC), at_pid!(ENTRY_OUTSIDE)),
+];
+
 #[test]
 fn starts_have_their_faults(rt: HostRuntime) -> Result<(), Fail> {
-    let cases = [
-        ((52, 0x1_0FFC), None),
-        ((51, 0x1_0000), at_pid(LOAD_OUTSIDE)),
-        ((53, 0x1_0000), at_pid(LOAD_OUTSIDE)),
-        ((0xFFFF_FFFF, 0x1_0000), at_pid(LOAD_OUTSIDE)),
-        ((52, 0x1_0002), at_pid(ENTRY_OUTSIDE)),
-        ((52, 0x1_1000), at_pid(ENTRY_OUTSIDE)),
-        ((52, 0xFFFF_FFFC), at_pid(ENTRY_OUTSIDE)),
-    ];
-    for (start, want) in cases {
+    for (start, want) in STARTS {
         let (load, entry) = start;
         let got = fault(rt.alloc(), (4096, 0), (load, entry, None), CODE, ZEROS)?;
         expect_fault(&rt, entry, got, want);
@@ -166,17 +172,19 @@ fn starts_have_their_faults(rt: HostRuntime) -> Result<(), Fail> {
     Ok(())
 }
 
+/// A load offset, an entry and a check word, the first section, and the fault of the plan with them.
+const CHECKED_STARTS: [((u32, u32, Option<u16>), Piece, Option<ArgFault>); 6] = [
+    ((52, 0x1_0000, Some(0x98F9)), CODE, None),
+    ((52, 0x1_0000, Some(0x98F8)), CODE, at_pid!(BAD_LOAD)),
+    ((53, 0x1_0000, Some(0x98F8)), CODE, at_pid!(LOAD_OUTSIDE)),
+    ((52, 0x1_0002, Some(0x98F8)), CODE, at_pid!(BAD_LOAD)),
+    ((52, 0x1_0002, Some(0x98F9)), CODE, at_pid!(ENTRY_OUTSIDE)),
+    ((52, 0x1_0000, Some(0)), (0x1_0000, 36, 6), None),
+];
+
 #[test]
 fn check_word_is_of_the_sections_bytes(rt: HostRuntime) -> Result<(), Fail> {
-    let cases = [
-        ((52, 0x1_0000, Some(0x98F9)), CODE, None),
-        ((52, 0x1_0000, Some(0x98F8)), CODE, at_pid(BAD_LOAD)),
-        ((53, 0x1_0000, Some(0x98F8)), CODE, at_pid(LOAD_OUTSIDE)),
-        ((52, 0x1_0002, Some(0x98F8)), CODE, at_pid(BAD_LOAD)),
-        ((52, 0x1_0002, Some(0x98F9)), CODE, at_pid(ENTRY_OUTSIDE)),
-        ((52, 0x1_0000, Some(0)), (0x1_0000, 36, 6), None),
-    ];
-    for (start, first, want) in cases {
+    for (start, first, want) in CHECKED_STARTS {
         let got = fault(rt.alloc(), (4096, 0), start, first, ZEROS)?;
         expect_fault(&rt, start.1, got, want);
     }
@@ -199,18 +207,33 @@ fn checked_process(alloc: Global) -> Result<ProcArgs, NoMemory>
     })
 }
 
+/// The fault of an image of 23 frames of this process that gives these slots, where so many are asked for.
+fn slots_fault(
+    alloc: Global,
+    given: Option<u32>,
+    asked: Option<u32>,
+) -> Result<Option<ArgFault>, NoMemory>
+    requires few_given { IfSome given (λ n. n ≤ 16384) }
+    requires few_asked { IfSome asked (λ n. n ≤ 16384) }
+{
+    let args = args(alloc, 23, given, checked_process(alloc)?)?;
+    fault_of(alloc, &args, asked)
+}
+
 #[test]
 fn image_gives_slots_where_none_are_asked_for(rt: HostRuntime) -> Result<(), Fail> {
-    let silent = args(rt.alloc(), 23, None, checked_process(rt.alloc())?)?;
-    let giving = args(rt.alloc(), 23, Some(9), checked_process(rt.alloc())?)?;
     let too_small = Some(ArgFault {
         what: RAM_TOO_SMALL,
         at: 0,
     });
-    expect_fault(&rt, 1, fault_of(rt.alloc(), &silent, None)?, too_small);
-    expect_fault(&rt, 2, fault_of(rt.alloc(), &silent, Some(9))?, None);
-    expect_fault(&rt, 3, fault_of(rt.alloc(), &giving, None)?, None);
-    expect_fault(&rt, 4, fault_of(rt.alloc(), &giving, Some(8))?, too_small);
+    let got = slots_fault(rt.alloc(), None, None)?;
+    expect_fault(&rt, 1, got, too_small);
+    let got = slots_fault(rt.alloc(), None, Some(9))?;
+    expect_fault(&rt, 2, got, None);
+    let got = slots_fault(rt.alloc(), Some(9), None)?;
+    expect_fault(&rt, 3, got, None);
+    let got = slots_fault(rt.alloc(), Some(9), Some(8))?;
+    expect_fault(&rt, 4, got, too_small);
     Ok(())
 }
 
@@ -247,6 +270,11 @@ fn expect_page(rt: &impl Abort, told: PagePlan, wanted: PagePlan) {
     assert_eq!(rt; told, wanted);
 }
 
+/// The first run's pages, in the order of its plan.
+const FIRST_VPNS: [u32; 10] = [
+    0x10, 0x7_FFF8, 0x7_FFF9, 0x7_FFFA, 0x7_FFFB, 0x7_FFFC, 0x7_FFFD, 0x7_FFFE, 0x7_FFFF, 0x7_F000,
+];
+
 #[test]
 fn first_run_has_ten_pages(rt: HostRuntime) -> Result<(), Fail> {
     let mut sections = Row::new(rt.alloc());
@@ -267,16 +295,12 @@ fn first_run_has_ten_pages(rt: HostRuntime) -> Result<(), Fail> {
         from: 52,
         len: 36,
     };
-    let vpns = [
-        0x10, 0x7_FFF8, 0x7_FFF9, 0x7_FFFA, 0x7_FFFB, 0x7_FFFC, 0x7_FFFD, 0x7_FFFE, 0x7_FFFF,
-        0x7_F000,
-    ];
     expect(&rt, plan.procs.as_slice().len() == 1);
     for process in plan.procs.as_slice() {
         expect_numbers(&rt, &[process.entry, process.sections], &[0x1_0000, 1]);
         let pages = process.pages.as_slice();
         expect(&rt, pages.len() == 10);
-        for (page, vpn) in pages.iter().zip(vpns) {
+        for (page, vpn) in pages.iter().zip(FIRST_VPNS) {
             let wanted = if vpn == 0x10 { code } else { zeros(vpn) };
             expect_page(&rt, *page, wanted);
         }

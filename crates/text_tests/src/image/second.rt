@@ -53,24 +53,26 @@ fn slots_of_images(rt: HostRuntime) -> Result<(), Fail> {
     Ok(())
 }
 
+/// What damages `NINE_SLOTS`.
+const DAMAGES_OF_VERSION_2: [Damage; 10] = [
+    checked!(12, 0, (4, 0x79e7), Some((BAD_VERSION, 12))),
+    checked!(12, 3, (4, 0xe3c6), Some((BAD_VERSION, 12))),
+    checked!(12, 1, (4, 0xf7f7), Some((BAD_INI, 52))),
+    // slots: their number, a length of four words, and a second tag
+    checked!(36, 16_384, (32, 0xfaa8), None),
+    checked!(36, 16_385, (32, 0xe613), Some((BAD_SLOTS, 28))),
+    broken!(32, 0x00043957, (BAD_SLOTS, 28)),
+    checked!(40, 0x53707753, (4, 0x6dd6), Some((BAD_SLOTS, 40))),
+    // a check word, and a length of four words
+    checked!(68, 0xffff, (56, 0x4780), None),
+    checked!(68, 0x1_0000, (56, 0xf486), Some((BAD_INI, 52))),
+    broken!(56, 0x0004d4f8, (BAD_INI, 52)),
+];
+
 #[test]
 fn damaged_images_of_version_2(rt: HostRuntime) -> Result<(), Fail> {
-    let table = [
-        checked(12, 0, (4, 0x79e7), Some((BAD_VERSION, 12))),
-        checked(12, 3, (4, 0xe3c6), Some((BAD_VERSION, 12))),
-        checked(12, 1, (4, 0xf7f7), Some((BAD_INI, 52))),
-        // slots: their number, a length of four words, and a second tag
-        checked(36, 16_384, (32, 0xfaa8), None),
-        checked(36, 16_385, (32, 0xe613), Some((BAD_SLOTS, 28))),
-        broken(32, 0x00043957, (BAD_SLOTS, 28)),
-        checked(40, 0x53707753, (4, 0x6dd6), Some((BAD_SLOTS, 40))),
-        // a check word, and a length of four words
-        checked(68, 0xffff, (56, 0x4780), None),
-        checked(68, 0x1_0000, (56, 0xf486), Some((BAD_INI, 52))),
-        broken(56, 0x0004d4f8, (BAD_INI, 52)),
-    ];
     expect_fault(&rt, rt.alloc(), &NINE_SLOTS, None)?;
-    for damage in &table {
+    for damage in &DAMAGES_OF_VERSION_2 {
         let mut image = NINE_SLOTS;
         put(&mut image, damage.at, &damage.word.to_le_bytes());
         if let Some((at, check)) = damage.check {
