@@ -1,12 +1,12 @@
 //! The first run over objects that never fail, and each real adapter once.
 
 use host_io::{ErrSink, FileHost, ProgramStore, RealDisk, StdSink};
-use std::alloc::Global;
+use std::alloc::{AllocError, Global};
 use std::fs;
-use std::fs::OpenOptions;
+use std::fs::{File, OpenOptions};
 use std::process::Abort;
 use std::test::Fail;
-use xk_ports::{Host, MemHost, SureSink, SureStore, SwapStore};
+use xk_ports::{Host, MemHost, Sink, SureSink, SureStore, SwapStore};
 use xous_program::{Ended, Status, xous_main};
 
 /// A process that maps the console, stores one byte there and loops.
@@ -19,23 +19,26 @@ const FIRST_IMAGE: [u8; 88] = [
     0x23, 0x80, 0xf5, 0x00, 0x6f, 0x00, 0x00, 0x00,
 ];
 
-/// What its first 100 steps tell.
-const FIRST_LINES: [&str; 4] = [
-    "6 2.2 call 00000002 f0000000 00000000 00001000 00000006 00000000 00000000 00000000\n",
-    "6 2.2 reply 00000003 60000000 00001000 00000000 00000000 00000000 00000000 00000000\n",
-    "8 2.2 byte 68\n",
-    "end 100 done\n",
-];
+/// What its first steps tell: the call that maps the console ..
+const MAPPED: &str =
+    "6 2.2 call 00000002 f0000000 00000000 00001000 00000006 00000000 00000000 00000000
+6 2.2 reply 00000003 60000000 00001000 00000000 00000000 00000000 00000000 00000000
+";
+
+/// .. and all behind it, up to step 100.
+const STORED: &str = "8 2.2 byte 68
+end 100 done
+";
 
 /// What a run left.
 #[derive(Drop)]
 struct Left {
     status: Status,
-    out: Vec<u8>,
-    notes: Vec<u8>,
+    out: SureSink,
+    notes: SureSink,
 }
 
-fn words(alloc: Global, texts: &[&str]) -> Result<Vec<String>, Fail> {
+fn words(alloc: Global, texts: &[&str]) -> Result<Vec<String>, AllocError> {
     let mut words = Vec::new(alloc);
     for text in texts {
         words.push(String::from_str(alloc, text)?)?;
@@ -43,53 +46,68 @@ fn words(alloc: Global, texts: &[&str]) -> Result<Vec<String>, Fail> {
     Ok(words)
 }
 
-/// A host of an image `i` and of the event file `e`, of 100 steps.
-fn host_of(alloc: Global, image: &[u8]) -> Result<MemHost, Fail> {
+fn file(alloc: Global, name: &str, bytes: &[u8]) -> Result<(String, Vec<u8>), AllocError> {
+    let name = String::from_str(alloc, name)?;
+    let bytes = bytes.to_vec(alloc)?;
+    Ok((name, bytes))
+}
+
+/// The image `i`, and the event file `e`, of 100 steps.
+fn files(alloc: Global, image: &[u8]) -> Result<Vec<(String, Vec<u8>)>, AllocError> {
     let mut files = Vec::new(alloc);
-    files.push((String::from_str(alloc, "i")?, image.to_vec(alloc)?))?;
-    files.push((String::from_str(alloc, "e")?, b"tick 100".to_vec(alloc)?))?;
+    files.push(file(alloc, "i", image)?)?;
+    files.push(file(alloc, "e", b"tick 100")?)?;
+    Ok(files)
+}
+
+/// A host of these two.
+fn host_of(alloc: Global, image: &[u8]) -> Result<MemHost, Fail> {
+    let files = files(alloc, image)?;
     Ok(MemHost::new(alloc, files, 4096, Vec::new(alloc), 100)?)
 }
 
-/// Runs the program with these words over these objects.
+/// How the program ends with these words over these objects.
+fn status_of<H: Host, O: Sink, N: Sink, W: SwapStore + Drop>(
+    alloc: Global,
+    texts: &[&str],
+    host: &mut H,
+    sinks: (&mut O, &mut N),
+    store: W,
+) -> Result<Status, Fail> {
+    let words = words(alloc, texts)?;
+    let (out, notes) = sinks;
+    let Ended { status, store: _ } = xous_main(alloc, words.as_slice(), host, out, notes, store);
+    Ok(status)
+}
+
+/// Runs the program with these words over this host and this store.
 fn run<H: Host, W: SwapStore + Drop>(
     alloc: Global,
     texts: &[&str],
     host: &mut H,
     store: W,
 ) -> Result<Left, Fail> {
-    let words = words(alloc, texts)?;
     let mut out = SureSink::new(alloc, 1000)?;
     let mut notes = SureSink::new(alloc, 100)?;
-    let Ended { status, store: _ } = xous_main(
-        alloc,
-        words.as_slice(),
-        host,
-        &mut out,
-        &mut notes,
-        store,
-    );
-    let out = out.as_slice().to_vec(alloc)?;
-    let notes = notes.as_slice().to_vec(alloc)?;
+    let status = status_of(alloc, texts, host, (&mut out, &mut notes), store)?;
     Ok(Left { status, out, notes })
 }
 
-/// The run ended with this status, and wrote just these texts.
-fn expect_left(
-    rt: &impl Abort,
-    alloc: Global,
-    left: &Left,
-    status: Status,
-    texts: (&[&str], &[u8]),
-) -> Result<(), Fail> {
-    let mut out = Vec::new(alloc);
-    for line in texts.0 {
-        out.extend_from_slice(line.as_bytes())?;
-    }
+/// Runs it with this image, and with a real file for its slots.
+fn run_on_disk(rt: &HostRuntime, image: &[u8], texts: &[&str]) -> Result<Left, Fail> {
+    let alloc = rt.alloc();
+    let mut host = host_of(alloc, image)?;
+    let disk = RealDisk::new(rt);
+    run(alloc, texts, &mut host, ProgramStore::new(alloc, &disk))
+}
+
+/// The run ended with this status, and wrote just the first two texts, and the last one as its note.
+fn expect_left(rt: &impl Abort, left: &Left, status: Status, texts: [&str; 3]) {
+    let [first, then, note] = texts;
     assert_eq!(rt; left.status, status);
-    assert_eq!(rt; left.out.as_slice(), out.as_slice());
-    assert_eq!(rt; left.notes.as_slice(), texts.1);
-    Ok(())
+    let rest = left.out.as_slice().strip_prefix(first.as_bytes());
+    assert_eq!(rt; rest, Some(then.as_bytes()));
+    assert_eq!(rt; left.notes.as_slice(), note.as_bytes());
 }
 
 #[test]
@@ -97,7 +115,8 @@ fn first_run_sure(rt: HostRuntime) -> Result<(), Fail> {
     let alloc = rt.alloc();
     let mut host = host_of(alloc, &FIRST_IMAGE)?;
     let left = run(alloc, &["trace", "i", "e"], &mut host, SureStore::new())?;
-    expect_left(&rt, alloc, &left, Status::Done, (&FIRST_LINES, b""))
+    expect_left(&rt, &left, Status::Done, [MAPPED, STORED, ""]);
+    Ok(())
 }
 
 /// A file that isn't there and a folder in place of a file are read faults.
@@ -107,27 +126,26 @@ fn real_files(rt: HostRuntime) -> Result<(), Fail> {
     for name in ["no-such-file", "."] {
         let mut host = FileHost::new(&rt);
         let left = run(alloc, &["trace", name, name], &mut host, SureStore::new())?;
-        expect_left(&rt, alloc, &left, Status::ReadFault, (&[], b"read fault\n"))?;
+        expect_left(&rt, &left, Status::ReadFault, ["", "", "read fault\n"]);
     }
     Ok(())
+}
+
+/// A device that takes nothing.
+fn full_device(rt: &HostRuntime) -> Result<File, Fail> {
+    Ok(OpenOptions::new().write(true).open(rt, "/dev/full")?)
 }
 
 /// A device that takes nothing is a write fault, also on the notes, and no crash or loop.
 #[test]
 fn real_streams(rt: HostRuntime) -> Result<(), Fail> {
     let alloc = rt.alloc();
-    let words = words(alloc, &["trace", "i", "e"])?;
     let mut host = host_of(alloc, &FIRST_IMAGE)?;
-    let mut out = StdSink::new(OpenOptions::new().write(true).open(&rt, "/dev/full")?);
-    let mut notes = ErrSink::new(OpenOptions::new().write(true).open(&rt, "/dev/full")?);
-    let Ended { status, store: _ } = xous_main(
-        alloc,
-        words.as_slice(),
-        &mut host,
-        &mut out,
-        &mut notes,
-        SureStore::new(),
-    );
+    let mut out = StdSink::new(full_device(&rt)?);
+    let mut notes = ErrSink::new(full_device(&rt)?);
+    let sinks = (&mut out, &mut notes);
+    let words = ["trace", "i", "e"];
+    let status = status_of(alloc, &words, &mut host, sinks, SureStore::new())?;
     assert_eq!(rt; status, Status::WriteFault);
     Ok(())
 }
@@ -148,60 +166,50 @@ fn one_frame_image(eighth: u32) -> [u8; 88] {
     image
 }
 
+fn size_of(rt: &HostRuntime, name: &str) -> Result<usize, Fail> {
+    let file = fs::read(rt, name)?;
+    Ok(file.len())
+}
+
+/// How many slots of the file have this page.
+fn slots_with(rt: &HostRuntime, name: &str, page: &[u8; 4096]) -> Result<usize, Fail> {
+    let file = fs::read(rt, name)?;
+    let slots = file.as_slice().chunks(4096);
+    Ok(slots.filter(|slot| *slot == page.as_slice()).count())
+}
+
+fn expect_count(rt: &impl Abort, told: usize, wanted: usize) {
+    assert_eq!(rt; told, wanted);
+}
+
 /// The first run with one frame and nine slots, which stand in a file, is the same over a file that is
 /// made and over that of the run before.
 #[test]
 fn real_store(rt: HostRuntime) -> Result<(), Fail> {
-    let alloc = rt.alloc();
     let name = "full-house.swap";
-    let texts = ["trace", "i", "e", "1000", "9", name];
+    let image = one_frame_image(STORE_ON_CONSOLE);
     for _ in 0..2 {
-        let mut host = host_of(alloc, &one_frame_image(STORE_ON_CONSOLE))?;
-        let disk = RealDisk::new(&rt);
-        let store = ProgramStore::new(alloc, &disk);
-        let left = run(alloc, &texts, &mut host, store)?;
-        expect_left(&rt, alloc, &left, Status::Done, (&FIRST_LINES, b""))?;
-        let file = fs::read(&rt, name)?;
-        assert_eq!(rt; file.len(), 9 * 4096);
+        let left = run_on_disk(&rt, &image, &["trace", "i", "e", "1000", "9", name])?;
+        expect_left(&rt, &left, Status::Done, [MAPPED, STORED, ""]);
+        expect_count(&rt, size_of(&rt, name)?, 9 * 4096);
     }
     fs::remove_file(&rt, name)?;
     Ok(())
-}
-
-/// So many slots of the file have this page.
-fn expect_slots(rt: &impl Abort, file: &[u8], page: &[u8; 4096], wanted: usize) {
-    let found = file
-        .chunks(4096)
-        .filter(|slot| *slot == page.as_slice())
-        .count();
-    assert_eq!(rt; found, wanted);
 }
 
 /// A run whose last step stores on the stack, in place of the store on the console, leaves that page
 /// in RAM. The other nine are the slots': the page of the code and eight of zeros.
 #[test]
 fn pages_stand_whole_in_their_file(rt: HostRuntime) -> Result<(), Fail> {
-    let alloc = rt.alloc();
     let name = "whole-pages.swap";
     let image = one_frame_image(STORE_ON_STACK);
-    let mut host = host_of(alloc, &image)?;
-    let disk = RealDisk::new(&rt);
-    let store = ProgramStore::new(alloc, &disk);
-    let left = run(
-        alloc,
-        &["trace", "i", "e", "8", "9", name],
-        &mut host,
-        store,
-    )?;
-    let [call, reply, _, _] = FIRST_LINES;
-    let lines = [call, reply, "end 8 limit\n"];
-    let limit = (lines.as_slice(), b"step limit 8\n".as_slice());
-    expect_left(&rt, alloc, &left, Status::StepLimit(8), limit)?;
-    let file = fs::read(&rt, name)?;
+    let left = run_on_disk(&rt, &image, &["trace", "i", "e", "8", "9", name])?;
+    let texts = [MAPPED, "end 8 limit\n", "step limit 8\n"];
+    expect_left(&rt, &left, Status::StepLimit(8), texts);
     let mut code = [0; 4096];
     code[..36].copy_from_slice(&image[52..]);
-    expect_slots(&rt, file.as_slice(), &code, 1);
-    expect_slots(&rt, file.as_slice(), &[0; 4096], 8);
+    expect_count(&rt, slots_with(&rt, name, &code)?, 1);
+    expect_count(&rt, slots_with(&rt, name, &[0; 4096])?, 8);
     fs::remove_file(&rt, name)?;
     Ok(())
 }
