@@ -1,7 +1,7 @@
 -- What leads to the next state, by cases: nothing happens, a thread does a step, a claimed interrupt comes, or a living process is killed.
 -- A thread executes an instruction, ends, or ends its handler. Its end is that of its process or not, and a handler starts or not.
-use Rattle.std.proofs.Common.{◌≡◌, ℕ, ◌+◌, Bool, true, false, [], map, Option, Some, None, refl, sym, ap, ◌∙◌, subst}
-use Rattle.std.specs.Prelude.{if◌then◌else◌}
+use Rattle.std.proofs.Common.{◌≡◌, ℕ, ◌+◌, ◌≤◌, Bool, true, false, [], map, Option, Some, None, is_some, refl, sym, ap, ◌∙◌, subst, arith}
+use Rattle.std.specs.Prelude.{unwrap_or, if◌then◌else◌}
 use Rattle.xk_base.specs.declared.ids.Pid.{Pid}
 use Rattle.xk_base.specs.declared.ids.ThreadId.{ThreadId}
 use Rattle.xk_base.specs.declared.records.What.TheVariants.{End}
@@ -11,7 +11,7 @@ use Rattle.machine_model.specs.Hart.Instructions.{Executed}
 use Rattle.machine_model.specs.Runs.Moments.{ByIrq, ByKill, ByPick, ByStep, ByTurn, Cause, caused}
 use Rattle.machine_model.specs.State.Changes.{Change, Told, only, settled}
 use Rattle.machine_model.specs.State.Machine.{Claim, Machine, Reservation, Thread}
-use Rattle.machine_model.specs.State.Order.{actor, ready_at, turn}
+use Rattle.machine_model.specs.State.Order.{actor, next_ready, ready_at, turn}
 use Rattle.machine_model.specs.State.Threads.{both_answers, put_thread}
 use Rattle.machine_model.specs.Stepping.Acts.{executes}
 use Rattle.machine_model.specs.Stepping.Events.{at_event, killed, killed_if, picked, raised, raised_if}
@@ -21,6 +21,7 @@ use Rattle.machine_model.specs.Stepping.Step.{Recorded, acted, acted_if_there, a
 use Rattle.machine_model.specs.Stepping.Step.{step_by, step_by_if}
 use Rattle.machine_model.specs.Stepping.Timer.{timed}
 use Rattle.machine_model.proofs.StepLemmas.{no_step}
+use Rattle.machine_laws.proofs.Histories.LimitLemmas.{irq_steps, kill_steps, pick_steps, step_steps, turn_steps}
 use Rattle.machine_laws.proofs.Stepping.StepKindLemmas.{Executes, HandlerEnds, StepKind, ThreadEnds, acted_as_executed, kind_of}
 use Rattle.machine_laws.proofs.Threading.ThreadStepLemmas.{then_acted, turned_to}
 use Rattle.confidentiality_laws.specs.TwoRuns.{records_by}
@@ -100,8 +101,16 @@ recorded_as m who t done = record {
   records = map (record_of (m.steps + 1)) (timed (counted (turned_to who m) (Some t) done)).told;
 }
 
+-- why nothing happens but that the cursor goes on or a reservation ends
+pub data RestCase (m : Machine) : Cause → ThreadId → Option Reservation → Type 0 where
+  NoneActs : actor m ≡ None → RestCase m ByStep m.cursor m.reserved
+  Picks : (who : ThreadId) → RestCase m (ByPick who) (if ready_at m who then who else m.cursor) m.reserved
+  Unclaimed : (k : ℕ) → m.claims k ≡ None → RestCase m (ByIrq k) m.cursor None
+  IsDead : (pid : Pid) → (m.process pid.0).alive ≡ false → RestCase m (ByKill pid) m.cursor None
+  Turns : RestCase m ByTurn (unwrap_or (next_ready m m.cursor) m.cursor) m.reserved
+
 pub data CauseCase (m : Machine) : Cause → Recorded → Type 0 where
-  Rests : (cause : Cause) (cursor : ThreadId) (reserved : Option Reservation)
+  Rests : (cause : Cause) (cursor : ThreadId) (reserved : Option Reservation) → RestCase m cause cursor reserved
       → CauseCase m cause (record { machine = record m { cursor = cursor; reserved = reserved }; records = [] })
   Steps : (who : ThreadId) (t : Thread) → actor m ≡ Some who → m.threads who ≡ Some t → ActCase m who t (acted (turned_to who m) t)
       → CauseCase m ByStep (recorded_as m who t (acted (turned_to who m) t))
@@ -119,7 +128,7 @@ step_is m who t acts there =
     next) there
 
 step_case : (m : Machine) (o : Option ThreadId) → actor m ≡ o → CauseCase m ByStep (step m)
-step_case m None e = subst (CauseCase m ByStep) (sym (no_step m e)) (Rests ByStep m.cursor m.reserved)
+step_case m None e = subst (CauseCase m ByStep) (sym (no_step m e)) (Rests ByStep m.cursor m.reserved (NoneActs e))
 step_case m (Some who) e =
     let act = act_of m who e in
     subst (CauseCase m ByStep) (sym (step_is m who act.thread e act.there))
@@ -128,15 +137,40 @@ step_case m (Some who) e =
 pub case_of : (cause : Cause) (m : Machine) → CauseCase m cause (record { machine = caused cause m; records = records_by cause m })
 unfolding picked raised killed turn
 case_of ByStep m = step_case m (actor m) refl
-case_of (ByPick who) m = Rests (ByPick who) (if ready_at m who then who else m.cursor) m.reserved
+case_of (ByPick who) m = Rests (ByPick who) (if ready_at m who then who else m.cursor) m.reserved (Picks who)
 case_of (ByIrq k) m = go (m.claims k) refl
   where
     go : (o : Option Claim) → m.claims k ≡ o → CauseCase m (ByIrq k) (raised_if k o (unreserved m))
-    go None e = Rests (ByIrq k) m.cursor None
+    go None e = Rests (ByIrq k) m.cursor None (Unclaimed k e)
     go (Some claim) e = Raises k claim e
 case_of (ByKill pid) m = go (m.process pid.0).alive refl
   where
     go : (b : Bool) → (m.process pid.0).alive ≡ b → CauseCase m (ByKill pid) (killed_if b pid (unreserved m))
-    go false e = Rests (ByKill pid) m.cursor None
+    go false e = Rests (ByKill pid) m.cursor None (IsDead pid e)
     go true e = Kills pid e
-case_of ByTurn m = Rests ByTurn _ m.reserved
+case_of ByTurn m = Rests ByTurn _ m.reserved Turns
+
+-- ---- steps
+
+abbrev pub is_step : Cause → Bool
+is_step ByStep = true
+is_step (ByPick who) = false
+is_step (ByIrq k) = false
+is_step (ByKill pid) = false
+is_step ByTurn = false
+
+-- at most one is counted
+pub cause_counts : (cause : Cause) (m : Machine) → (m.steps ≤ (caused cause m).steps) × ((caused cause m).steps ≤ m.steps + 1)
+cause_counts ByStep m = go (actor m) refl
+  where
+    go : (o : Option ThreadId) → actor m ≡ o → (m.steps ≤ (step m).machine.steps) × ((step m).machine.steps ≤ m.steps + 1)
+    go None e =
+        let same : (step m).machine.steps ≡ m.steps = ap (λ (s : Recorded). s.machine.steps) (no_step m e) in
+        (omega arith, omega arith)
+    go (Some who) e =
+        let one : (step m).machine.steps ≡ m.steps + 1 = step_steps m (ap is_some e) in
+        (omega arith, omega arith)
+cause_counts (ByPick who) m = let e = pick_steps who m in (omega (arith, e), omega (arith, e))
+cause_counts (ByIrq k) m = let e = irq_steps k m in (omega (arith, e), omega (arith, e))
+cause_counts (ByKill pid) m = let e = kill_steps pid m in (omega (arith, e), omega (arith, e))
+cause_counts ByTurn m = let e = turn_steps m in (omega (arith, e), omega (arith, e))

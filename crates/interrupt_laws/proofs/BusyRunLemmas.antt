@@ -1,28 +1,23 @@
 -- Each moment keeps that no interrupt thread is Idle beside a pending number of its process, and so does each run.
-use Rattle.std.proofs.Common.{◌≡◌, ℕ, zero, suc, Bool, true, false, [], ◌∷◌, Option, Some, None, refl, sym, ap, ◌∙◌, subst}
-use Rattle.std.specs.Prelude.{if◌then◌else◌}
+use Rattle.std.proofs.Common.{◌≡◌, ℕ, zero, suc, [], ◌∷◌, Option, Some, sym, ap, ◌∙◌, subst}
 use Rattle.std.proofs.lemmas.Bool.{false≢true}
-use Rattle.xk_base.specs.declared.ids.Pid.{Pid}
 use Rattle.xk_base.specs.declared.ids.ThreadId.{ThreadId}
-use Rattle.xk_base.specs.declared.records.What.TheVariants.{End}
 use Rattle.xk_base.specs.Calls.Registers.{arguments_of, reg_at}
 use Rattle.machine_model.specs.Ending.Ends.{death, handler_ended, thread_ended}
 use Rattle.machine_model.specs.Hart.Instructions.{Executed, Next, Stores, StoresToConsole, StoresToTimer, CallsKernel, Traps}
 use Rattle.machine_model.specs.Runs.Matched.{Matched}
-use Rattle.machine_model.specs.Runs.Moments.{Cause, ByStep, ByPick, ByIrq, ByKill, ByTurn, IsRun, caused, state_at}
+use Rattle.machine_model.specs.Runs.Moments.{Cause, ByStep, IsRun, caused, state_at}
 use Rattle.machine_model.specs.State.Changes.{Change, Told, settled}
 use Rattle.machine_model.specs.State.Machine.{Claim, Machine, Thread}
-use Rattle.machine_model.specs.State.Order.{actor, turn}
+use Rattle.machine_model.specs.State.Order.{actor}
 use Rattle.machine_model.specs.State.Threads.{with_registers}
 use Rattle.machine_model.specs.State.Views.{stored, timer_set}
-use Rattle.machine_model.specs.Stepping.Events.{killed, killed_if, picked, raised, raised_if}
 use Rattle.machine_model.specs.Stepping.Reservations.{unreserved}
-use Rattle.machine_model.specs.Stepping.Step.{Recorded, acted_if_there, after, counted, ends_handler, ends_thread, executed, performed, step}
+use Rattle.machine_model.specs.Stepping.Step.{Recorded, counted, executed, step}
 use Rattle.machine_model.specs.Stepping.Timer.{is_due}
-use Rattle.machine_model.proofs.StepLemmas.{no_step}
 use Rattle.machine_model.proofs.Runs.TimerLemmas.{timed_raised}
 use Rattle.machine_laws.proofs.Stepping.EveryStepLemmas.{every_cause_keeps}
-use Rattle.machine_laws.proofs.Threading.ThreadStepLemmas.{step_of_actor, turned_to}
+use Rattle.machine_laws.proofs.Threading.ThreadStepLemmas.{turned_to}
 use Rattle.confidentiality_laws.proofs.CauseCaseLemmas.{ActCase, CauseCase, EndsHandler, EndsThread, Instructs, Kills, Raises, Rests, Steps, case_of}
 use Rattle.interrupt_laws.specs.Busy.{PendingMeansBusy, PendingStaysBusy, StartsBusy}
 use Rattle.interrupt_laws.proofs.BusyDeliveryLemmas.{AreNumbers, handler_end_busy, pended_busy, timed_busy}
@@ -94,7 +89,7 @@ module _ (m : Machine) (h : Matched m) (busy : PendingMeansBusy m) where
   cause_busy cause = by cause (record { machine = caused cause m; records = records_by cause m }) (case_of cause m)
     where
       by : (cause : Cause) (next : Recorded) → CauseCase m cause next → PendingMeansBusy next.machine
-      by _ _ (Rests cause cursor reserved) = busy
+      by _ _ (Rests cause cursor reserved rest) = busy
       by _ _ (Steps who t acts there case) = stepped_busy who t acts there case
       by _ _ (Raises k claim e) = pended_busy k claim (unreserved m) h.rest.claims.numbers e busy
       by _ _ (Kills pid e) = change_busy (unreserved m) (death pid (unreserved m)) (death_calms pid (unreserved m)) busy

@@ -4,7 +4,6 @@ use Rattle.std.specs.Prelude.{◌==◌, ◌&&◌, not, is_some, if◌then◌else
 use Rattle.std.proofs.lemmas.Bool.{false≢true}
 use Rattle.xk_base.specs.declared.ids.ThreadId.{ThreadId}
 use Rattle.xk_base.specs.declared.limits.TheConstants.{TIMER_INTERRUPT}
-use Rattle.xk_base.specs.declared.records.What.TheVariants.{End}
 use Rattle.xk_base.specs.Calls.Registers.{arguments_of, reg_at}
 use Rattle.machine_model.specs.Calling.Calls.{call}
 use Rattle.machine_model.specs.Ending.Ends.{death, handler_ended, thread_ended}
@@ -14,8 +13,10 @@ use Rattle.machine_model.specs.State.Machine.{Claim, Machine, Thread}
 use Rattle.machine_model.specs.State.Order.{turn}
 use Rattle.machine_model.specs.State.Threads.{change_thread, passed}
 use Rattle.machine_model.specs.State.Views.{stored, timer_set}
-use Rattle.machine_model.specs.Stepping.Step.{acted_if_there, after, console_told, ends_handler, ends_thread, executed, performed}
+use Rattle.machine_model.specs.Stepping.Step.{console_told, executed}
 use Rattle.machine_model.specs.Stepping.Timer.{raised_by_timer, timed_if, timer_change}
+use Rattle.machine_laws.proofs.Threading.ThreadStepLemmas.{turned_to}
+use Rattle.confidentiality_laws.proofs.CauseCaseLemmas.{ActCase, EndsHandler, EndsThread, Instructs}
 use Rattle.interrupt_laws.specs.Balance.{given_up_in}
 use Rattle.interrupt_laws.specs.Delivering.{once_if}
 use Rattle.interrupt_laws.proofs.BalanceLemmas.{settled_count, timed_count, told_count, told_delivery}
@@ -105,24 +106,13 @@ module _ (k : ℕ) where
     executed_even t CallsKernel = call_even m (call m (arguments_of t.regs)) claimed (call_kept m claimed (arguments_of t.regs))
     executed_even t (Traps cause value) = kept_even m (death m.cursor.pid m) (death_kept m.cursor.pid m claimed)
 
-    abbrev acted_by : Thread → Bool → Bool → Executed → Told
-    acted_by t a b x =
-        if a then after (End m.cursor) (settled (thread_ended m.cursor (reg_at t.regs 10) m)) else (
-        if b then after (End m.cursor) (settled (handler_ended m.cursor.pid m)) else
-        executed m t x)
-
-    kind_even : (t : Thread) (a b : Bool) (x : Executed) → IsEven m (acted_by t a b x)
-    kind_even t true b x =
-        kept_even m (thread_ended m.cursor (reg_at t.regs 10) m) (thread_end_kept m.cursor (reg_at t.regs 10) m claimed)
-    kind_even t false true x =
-        delivered_even m (handler_ended m.cursor.pid m) claimed (handler_end_one k m.cursor.pid m) (handler_end_claims m.cursor.pid m)
-    kind_even t false false x = executed_even t x
-
-    pub acted_even : (o : Option Thread) → IsEven m (acted_if_there m o)
-    acted_even None =
-        let none : once_if (m.pending k && not (is_some (m.claims k))) ≡ 0 = none_given_up m claimed in
-        omega arith
-    acted_even (Some t) = kind_even t (ends_thread m.cursor t.pc) (ends_handler m.cursor t.pc) (performed m m.cursor t).executed
+  pub act_even : (m : Machine) → PendingIsClaimed m → (who : ThreadId) (t : Thread) (done : Told) → ActCase m who t done → IsEven m done
+  act_even m claimed who t _ (Instructs x e) = executed_even (turned_to who m) claimed t x
+  act_even m claimed who t _ (EndsThread e) =
+      kept_even (turned_to who m) (thread_ended who (reg_at t.regs 10) (turned_to who m)) (thread_end_kept who (reg_at t.regs 10) (turned_to who m) claimed)
+  act_even m claimed who t _ (EndsHandler e) =
+      delivered_even (turned_to who m) (handler_ended who.pid (turned_to who m)) claimed (handler_end_one k who.pid (turned_to who m))
+      (handler_end_claims who.pid (turned_to who m))
 
   -- ---- the timer
 

@@ -1,4 +1,5 @@
 pub mod BalanceLemmas
+pub mod BeforeTimerLemmas
 pub mod BusyDeliveryLemmas
 pub mod BusyRunLemmas
 pub mod CallQuietLemmas

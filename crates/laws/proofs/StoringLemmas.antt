@@ -28,6 +28,7 @@ use Rattle.machine_model.proofs.StepLemmas.{no_step}
 use Rattle.machine_model.proofs.Runs.TimerLemmas.{timed_raised}
 use Rattle.machine_laws.proofs.Stepping.StepKindLemmas.{Executes, HandlerEnds, StepKind, ThreadEnds, acted_as_executed, kind_of}
 use Rattle.machine_laws.proofs.Threading.ThreadStepLemmas.{performed_turned, step_of_thread, turned_to}
+use Rattle.confidentiality_laws.proofs.CauseCaseLemmas.{is_step}
 use Rattle.laws.specs.LoadedWord.{StoresNothing, does_store, is_store, word_seen}
 use Rattle.laws.proofs.ReservedLemmas.{Leaves, leaves}
 
@@ -181,13 +182,6 @@ step_same m r h none = go (actor m) refl
     go (Some who) e = by_kind m who e r h (kind_of m who e) (none who e)
 
 -- ---- any moment
-
-abbrev is_step : Cause → Bool
-is_step ByStep = true
-is_step (ByPick who) = false
-is_step (ByIrq k) = false
-is_step (ByKill pid) = false
-is_step ByTurn = false
 
 -- an interrupt and a kill leave no reservation
 irq_leaves_none : (m : Machine) (k : ℕ) (r : Reservation) → Leaves r m (ByIrq k) → ⊥

@@ -4,6 +4,4 @@ pub mod DeathHeldLemmas
 pub mod DeathLemmas
 pub mod DeathLoanLemmas
 pub mod DeathStepLemmas
-pub mod DeathWithoutServerLemmas
-pub mod LoneDeathLemmas
 pub mod StoppedThreadLemmas

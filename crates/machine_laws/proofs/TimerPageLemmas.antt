@@ -2,17 +2,21 @@
 use Rattle.std.proofs.Common.{◌≡◌, ℕ, ◌/◌, true, false, Option, Some, None, refl, sym, ap, ◌∙◌}
 use Rattle.std.specs.Prelude.{is_some}
 use Rattle.std.proofs.lemmas.Bool.{and_parts, eqb-true, false≢true}
+use Rattle.xk_base.specs.declared.ids.Pid.{Pid}
 use Rattle.xk_base.specs.declared.ids.Place.{Place}
 use Rattle.xk_base.specs.declared.pages.Access.{Access}
 use Rattle.xk_base.specs.declared.windows.Window.TheVariants.{Message}
 use Rattle.xk_base.specs.Tables.Circle.{is_pid}
 use Rattle.xk_base.specs.Numbers.Windows.{in_window, page_of, window_at}
+use Rattle.xk_base.specs.UserMemory.{in_timer_page}
 use Rattle.ledger_model.specs.Lawful.{IsLawful}
 use Rattle.ledger_model.specs.Ledger.{Ledger, Orphan, Page, PageLoan, loan_at}
 use Rattle.ledger_model.specs.Places.{is_place_in, is_user_place}
 use Rattle.ledger_model.specs.Reach.{FreePlace, lender_of, reach}
 use Rattle.ledger_model.proofs.LedgerLemmas.{lender_of-loan, reach-role, role_at-free}
-use Rattle.machine_laws.specs.TimerPage.{PageIsApart}
+use Rattle.machine_model.specs.Runs.Matched.{Matched}
+use Rattle.machine_model.specs.State.Machine.{Machine}
+use Rattle.machine_model.specs.State.Views.{page_reached}
 
 -- ---- outside the windows
 
@@ -46,7 +50,9 @@ module _ (procs capacity : ℕ) (l : Ledger) (h : IsLawful procs capacity l) (p 
       reach-role procs l p access FreePlace
       (role_at-free procs l p (no_home (l.home p) refl) (no_orphan (l.orphan p) refl) (no_lender (lender_of procs l p) refl))
 
-pub page_is_apart : PageIsApart
+-- No process reaches a page of the ledger at an address of the timer's page, whether it has claimed the timer's interrupt or not.
+pub page_is_apart : (m : Machine) (pid : Pid) (access : Access) (address : ℕ) → Matched m → in_timer_page address ≡ true
+    → page_reached m pid access address ≡ None
 page_is_apart m pid access address h inside =
     let at : address / 4096 ≡ 0xF0001 = eqb-true (address / 4096) 0xF0001 inside in
     unreached m.processes m.capacity m.ledger h.body.ledger.lawful (page_of pid address)

@@ -2,4 +2,3 @@ pub mod History
 pub mod HistoryMoments
 pub mod Interleaving
 pub mod Reserved
-pub mod TimerPage

@@ -1,4 +1,3 @@
 pub mod KeptLemmas
-pub mod ReservingLemmas
 pub mod SpanLemmas
 pub mod TimerLemmas

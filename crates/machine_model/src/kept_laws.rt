@@ -6,7 +6,6 @@ ghost use Rattle.machine_model.specs.Runs.Kept.{AllKeepMatched};
 ghost use Rattle.machine_model.specs.State.Machine.{Machine};
 ghost use Rattle.machine_model.specs.Runs.Moments.{Moment, IsRun, state_at};
 ghost use Rattle.machine_model.specs.Runs.Matched.{Matched};
-ghost use Rattle.machine_model.specs.Runs.Reserving.{ReservationHolds};
 ghost use Rattle.machine_model.specs.Worked.Rows.{small_machine};
 ghost use Rattle.machine_model.specs.State.Start.{IsStart};
 ghost use Rattle.xk_base.specs.declared.limits.TheConstants.{PROCESS_LIMIT};
@@ -35,9 +34,4 @@ pub fn start_is_matched()
 /// The small machine from which the worked rows start is matched.
 pub fn small_machine_is_matched()
     ensures { (n : ℕ) → n ≤ PROCESS_LIMIT → Matched (small_machine n) }
-{}
-
-/// Between an LR and the SC that succeeds on it, only that thread did steps.
-pub fn reservation_holds()
-    ensures { ReservationHolds }
 {}

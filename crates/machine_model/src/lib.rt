@@ -18,8 +18,8 @@ pub use end_laws::{
     servers_close_one_at_a_time, unclaimed_interrupt_does_nothing,
 };
 pub use kept_laws::{
-    pick_keeps_matched, reservation_holds, run_stays_matched, small_machine_is_matched,
-    start_is_matched, turn_keeps_matched,
+    pick_keeps_matched, run_stays_matched, small_machine_is_matched, start_is_matched,
+    turn_keeps_matched,
 };
 pub use laws::{
     arguments_are_given, next_ready_is_ready, no_step_without_actor, none_ready_without_next,

@@ -3,12 +3,10 @@
 use Rattle.std.specs.Prelude.{ℕ, ◌≡◌, ◌==◌, false, List, map, Option, position, slice_get}
 use Rattle.std.specs.List.{filter_map}
 use Rattle.std.specs.Option.{option_map, option_and_then}
-use Rattle.xk_base.specs.declared.ids.Pid.{Pid}
-use Rattle.xk_base.specs.declared.ids.Sid.{Sid}
 use Rattle.xk_base.specs.Tables.Sids.{same_sid}
 use Rattle.server_table.specs.declared.table.ServerSeat.{ServerSeat}
 use Rattle.server_table.specs.Seats.{server_of}
-use Rattle.server_table.specs.ServerState.{Server, ServerState, least_of, live_serials, made_answer, seat_view, with_sid}
+use Rattle.server_table.specs.ServerState.{Server, ServerState, live_serials, seat_view}
 
 -- the serials of the servers of the list
 abbrev pub serials_of : List ServerSeat → List ℕ
@@ -37,11 +35,3 @@ listed_servers rows next = record { next = next; live = by_list rows }
 -- the living servers in the order of their serials
 abbrev pub rows_of : ServerState → List ServerSeat
 rows_of s = filter_map (λ n. option_map (seat_view n) (s.live n)) (live_serials s)
-
--- the same is answered to every call but one that speaks of seats
-pub record AnswersAlike (one other : ServerState) : Type 0 where
-  pub next_serial : one.next ≡ other.next
-  pub find : (sid : Sid) → with_sid sid one ≡ with_sid sid other
-  pub owner : (n : ℕ) → option_map (λ v. v.pid) (one.live n) ≡ option_map (λ v. v.pid) (other.live n)
-  pub any_of : (pid : Pid) → least_of pid one ≡ least_of pid other
-  pub make : (sid : Sid) → made_answer sid one ≡ made_answer sid other

@@ -1,47 +1,29 @@
 -- State bytes spell each state of a history.
-use Rattle.std.proofs.Common.{◌≡◌, ℕ, zero, suc, ◌+◌, ◌≤◌, List, [], ◌∷◌, length, Option, Some, None, is_some, refl, sym, ap, subst, arith, le_refl, le_trans}
+use Rattle.std.proofs.Common.{◌≡◌, ℕ, zero, suc, ◌≤◌, List, [], ◌∷◌, length, sym, ap, subst, arith, le_refl, le_trans}
 use Rattle.xk_base.specs.declared.events.Event.{Event}
-use Rattle.xk_base.specs.declared.ids.ThreadId.{ThreadId}
 use Rattle.machine_model.specs.Runs.Matched.{Matched}
-use Rattle.machine_model.specs.Runs.Moments.{Cause, ByStep, ByPick, ByIrq, ByKill, ByTurn, IsRun, Moment, caused, state_at}
+use Rattle.machine_model.specs.Runs.Moments.{Cause, IsRun, Moment, caused, state_at}
 use Rattle.machine_model.specs.State.Machine.{Machine}
-use Rattle.machine_model.specs.State.Order.{actor}
-use Rattle.machine_model.specs.Stepping.Step.{Recorded, step}
-use Rattle.machine_model.proofs.StepLemmas.{no_step}
 use Rattle.machine_laws.proofs.Stepping.CursorStepLemmas.{every_cause_keeps_cursor}
 use Rattle.machine_laws.proofs.Stepping.EveryStepLemmas.{every_cause_keeps}
 use Rattle.machine_laws.specs.History.{history}
 use Rattle.machine_laws.specs.HistoryMoments.{moments_of}
-use Rattle.machine_laws.proofs.Histories.LimitLemmas.{history_within, irq_steps, kill_steps, pick_steps, step_steps, turn_steps}
+use Rattle.machine_laws.proofs.Histories.LimitLemmas.{history_within}
 use Rattle.machine_laws.proofs.Histories.MomentLemmas.{history_is_run, history_last, moments_keep}
+use Rattle.confidentiality_laws.proofs.CauseCaseLemmas.{cause_counts}
 use Rattle.suspend_image.specs.Saveable.{IsSpellable}
 use Rattle.snapshot_laws.specs.Keeping.{IsSameSize}
-use Rattle.snapshot_laws.proofs.SizeLemmas.{cause_reserved, cause_size}
+use Rattle.snapshot_laws.proofs.SizeLemmas.{cause_size}
+use Rattle.machine_laws.proofs.Histories.ReservedLemmas.{cause_reserved}
 use Rattle.snapshot_laws.proofs.Stepping.StepWordLemmas.{causes_keep}
 use Rattle.snapshot_laws.specs.Keeping.{AllKeepSpellable, LastSpellable, MomentsSpellable}
 use Rattle.snapshot_laws.proofs.SaveableLemmas.{saveable_of, words_of}
-
--- ---- steps are only counted on
-
-step_later : (m : Machine) → m.steps ≤ (step m).machine.steps
-step_later m = go (actor m) refl
-  where
-    go : (o : Option ThreadId) → actor m ≡ o → m.steps ≤ (step m).machine.steps
-    go None e = let same : (step m).machine.steps ≡ m.steps = ap (λ (s : Recorded). s.machine.steps) (no_step m e) in omega arith
-    go (Some who) e = let one : (step m).machine.steps ≡ m.steps + 1 = step_steps m (ap is_some e) in omega arith
-
-pub cause_later : (cause : Cause) (m : Machine) → m.steps ≤ (caused cause m).steps
-cause_later ByStep m = step_later m
-cause_later (ByPick who) m = let e = pick_steps who m in omega (arith, e)
-cause_later (ByIrq k) m = let e = irq_steps k m in omega (arith, e)
-cause_later (ByKill pid) m = let e = kill_steps pid m in omega (arith, e)
-cause_later ByTurn m = let e = turn_steps m in omega (arith, e)
 
 -- ---- one cause
 
 pub cause_spellable : AllKeepSpellable
 cause_spellable cause m h few =
-    let later : m.steps ≤ (caused cause m).steps = cause_later cause m in
+    let later : m.steps ≤ (caused cause m).steps = (cause_counts cause m).0 in
     let size : IsSameSize m (caused cause m) = cause_size cause m in
     let room : m.capacity ≤ 32768 = h.saveable.capacity in
     let some : 1 ≤ m.processes = h.saveable.some_process in
@@ -63,7 +45,7 @@ abbrev IsSpellableWithin : Machine → Type 0
 IsSpellableWithin m = m.steps ≤ 4000000000 → IsSpellable m
 
 kept_within : (cause : Cause) (m : Machine) → IsSpellableWithin m → IsSpellableWithin (caused cause m)
-kept_within cause m h few = let later : m.steps ≤ (caused cause m).steps = cause_later cause m in cause_spellable cause m (h (omega arith)) few
+kept_within cause m h few = let later : m.steps ≤ (caused cause m).steps = (cause_counts cause m).0 in cause_spellable cause m (h (omega arith)) few
 
 -- each state of a run has done no more steps than the last
 run_later : (start : Machine) (moments : List Moment) → IsRun start moments
@@ -77,7 +59,7 @@ run_later start [] run = (le_refl start.steps, at_start)
     at_start (suc i) = le_refl start.steps
 run_later start (moment ∷ moments) run =
     let rest = run_later moment.machine moments run.1 in
-    let later : start.steps ≤ (caused moment.cause start).steps = cause_later moment.cause start in
+    let later : start.steps ≤ (caused moment.cause start).steps = (cause_counts moment.cause start).0 in
     let first : start.steps ≤ moment.machine.steps = subst (λ (m : Machine). start.steps ≤ m.steps) (sym run.0) later in
     let all : start.steps ≤ (state_at moment.machine moments (length moments)).steps = le_trans first rest.0 in
     (all, at_each all rest.1)

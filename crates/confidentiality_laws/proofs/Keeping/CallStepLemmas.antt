@@ -58,9 +58,6 @@ pub call_step_moves : CallMovesToEmptyPlaces
 unfolding call_by
 call_step_moves m who words h acts c = go (m.threads who) refl c
   where
-    after : Thread → Outcome
-    after t = call (turned_to who m) words
-
     go : (o : Option Thread) → m.threads who ≡ o
         → option_and_then (λ t. option_and_then (words_if_call t) (executes m who t)) o ≡ Some words
         → MovesToEmptyPlaces m.ledger (step m).machine.ledger

@@ -1,5 +1,5 @@
 -- Who stores to the timer has claimed its interrupt, and so a raise finds it claimed.
-use Rattle.std.proofs.Common.{◌≡◌, ◌+◌, Bool, true, false, Option, Some, None, refl, sym, ap, ◌∙◌, subst}
+use Rattle.std.proofs.Common.{◌≡◌, ◌+◌, Bool, true, false, Option, Some, None, refl, sym, ap, ◌∙◌, subst, inl, inr}
 use Rattle.std.specs.Prelude.{is_some, if◌then◌else◌}
 use Rattle.std.proofs.lemmas.Bool.{false≢true}
 use Rattle.std.proofs.lemmas.Option.{none-some, same_Some}
@@ -22,7 +22,7 @@ use Rattle.machine_laws.proofs.Executing.InstructionEffectLemmas.{execute_at_sou
 use Rattle.machine_laws.proofs.Stepping.StepKindLemmas.{StepKind, Executes, ThreadEnds, HandlerEnds, kind_of}
 use Rattle.interrupt_laws.specs.Arming.{OnlyClaimantStores, TimerStore, timer_store, to_timer}
 use Rattle.interrupt_laws.specs.Raising.{RaiseFindsClaim, other_effects}
-use Rattle.interrupt_laws.proofs.Runs.MomentLemmas.{Armed, Disarmed, Left, Touch, executes_if, no_actor, store_of, touch_of}
+use Rattle.interrupt_laws.proofs.Runs.MomentLemmas.{Armed, Disarmed, Left, Touch, end_stores_none, no_actor, store_of, touch_of}
 
 module _ (m : Machine) (who : ThreadId) (h : Matched m) (acts : actor m ≡ Some who) where
   -- the timer is there for what is executed
@@ -55,11 +55,9 @@ module _ (m : Machine) (who : ThreadId) (h : Matched m) (acts : actor m ≡ Some
   by_executed store t q (Traps cause value) e s = absurd (none-some store s)
 
   by_kind : (store : TimerStore) → timer_store m ≡ Some store → StepKind m who → is_claim_of who.pid (m.claims TIMER_INTERRUPT) ≡ true
-  by_kind store s (Executes t x q e) = by_executed store t q x e (sym (store_of m who acts t q (Some x) e) ∙ s)
-  by_kind store s (ThreadEnds t q e) =
-      absurd (none-some store (sym (store_of m who acts t q None (executes_if m who acts t true (ends_handler who t.pc) e refl)) ∙ s))
-  by_kind store s (HandlerEnds t q low e) =
-      absurd (none-some store (sym (store_of m who acts t q None (executes_if m who acts t false true low e)) ∙ s))
+  by_kind store s (Executes t x q e) = by_executed store t q x e (sym (store_of m who t acts q (Some x) e) ∙ s)
+  by_kind store s (ThreadEnds t q e) = absurd (none-some store (sym (end_stores_none m who t acts q (inl e)) ∙ s))
+  by_kind store s (HandlerEnds t q low e) = absurd (none-some store (sym (end_stores_none m who t acts q (inr e)) ∙ s))
 
 pub only_claimant_stores : OnlyClaimantStores
 only_claimant_stores m who store h acts s = by_kind m who h acts store s (kind_of m who acts)

@@ -1,5 +1,5 @@
 -- What one moment does to the timer before its raise: it is left alone, armed, or disarmed.
-use Rattle.std.proofs.Common.{◌≡◌, ℕ, ◌⊎◌, Bool, true, false, [], Option, Some, None, refl, sym, ap, ◌∙◌, subst, inl, inr}
+use Rattle.std.proofs.Common.{◌≡◌, ℕ, ◌⊎◌, Bool, true, false, Option, Some, None, refl, sym, ap, ◌∙◌, subst, inl, inr}
 use Rattle.std.specs.Prelude.{◌==◌, nat_eq, if◌then◌else◌}
 use Rattle.std.specs.Option.{option_and_then, option_map_or}
 use Rattle.std.proofs.lemmas.Bool.{eqb-true, false≢true}
@@ -13,21 +13,21 @@ use Rattle.xk_base.specs.Tables.Counting.{put_at}
 use Rattle.xk_base.specs.Calls.Registers.{arguments_of, reg_at}
 use Rattle.xk_base.specs.UserMemory.{compare_stored}
 use Rattle.machine_model.specs.Calling.Calls.{call}
-use Rattle.machine_model.specs.Ending.Ends.{handler_ended, thread_ended}
 use Rattle.machine_model.specs.Hart.Instructions.{Executed, Next, Stores, StoresToConsole, StoresToTimer, CallsKernel, Traps}
 use Rattle.machine_model.specs.Runs.Moments.{Cause, ByStep, ByPick, ByIrq, ByKill, ByTurn, caused}
-use Rattle.machine_model.specs.State.Changes.{settled}
+use Rattle.machine_model.specs.State.Changes.{Told, settled}
 use Rattle.machine_model.specs.State.Machine.{Claim, Machine, Thread}
 use Rattle.machine_model.specs.State.Order.{actor, turn}
 use Rattle.machine_model.specs.State.Views.{stored, timer_set}
 use Rattle.machine_model.specs.Stepping.Acts.{executes}
 use Rattle.machine_model.specs.Stepping.Events.{killed, killed_if, picked, raised, raised_if}
 use Rattle.machine_model.specs.Stepping.Reservations.{unreserved}
-use Rattle.machine_model.specs.Stepping.Step.{acted, acted_if_there, counted, ends_handler, ends_thread, executed, performed}
-use Rattle.machine_laws.proofs.Stepping.StepKindLemmas.{StepKind, Executes, ThreadEnds, HandlerEnds, acted_as_executed, kind_of}
-use Rattle.machine_laws.proofs.Threading.ThreadStepLemmas.{then_acted, turned_to}
+use Rattle.machine_model.specs.Stepping.Step.{acted, ends_handler, ends_thread, executed, performed}
+use Rattle.machine_laws.proofs.Threading.ThreadStepLemmas.{turned_to}
+use Rattle.confidentiality_laws.proofs.CauseCaseLemmas.{ActCase, EndsHandler, EndsThread, Instructs, act_of, is_step}
 use Rattle.interrupt_laws.specs.Arming.{Arms, Disarms, EndsClaim, TimerStore, timer_store, to_timer}
 use Rattle.interrupt_laws.specs.Raising.{other_effects, other_effects_of}
+use Rattle.interrupt_laws.proofs.BeforeTimerLemmas.{effects_are}
 use Rattle.interrupt_laws.proofs.Fates.CallFateLemmas.{call_fate}
 use Rattle.interrupt_laws.proofs.Fates.ClaimFateLemmas.{Fate, FateOf, Freed, Kept, as_before, death_fate, delivered_fate, handler_end_fate}
 use Rattle.interrupt_laws.proofs.Fates.ClaimFateLemmas.{settled_fate, thread_end_fate}
@@ -54,13 +54,6 @@ module _ (m : Machine) (cause : Cause) (not_armed : (c : ℕ) → ¬ Arms c m ca
   of_fate after (Kept same stands) = Left same not_armed not_disarmed stands
   of_fate after (Freed c stood free none) =
       Disarmed none not_armed (inr (record { claim = c; stood = stood; ended = λ e. none-some c (sym free ∙ e) }))
-
-abbrev pub is_step : Cause → Bool
-is_step ByStep = true
-is_step (ByPick who) = false
-is_step (ByIrq k) = false
-is_step (ByKill pid) = false
-is_step ByTurn = false
 
 module _ (m : Machine) (cause : Cause) (other : is_step cause ≡ false) where
   by_event : (after : Machine) → FateOf m after → Touch m cause after
@@ -126,82 +119,58 @@ by_store m offset Word value after store same claims = go (offset == 4) (offset 
 
 -- ---- a step
 
-module _ (m : Machine) (who : ThreadId) (acts : actor m ≡ Some who) where
+module _ (m : Machine) (who : ThreadId) (t : Thread) (acts : actor m ≡ Some who) (there : m.threads who ≡ Some t) where
   abbrev n : Machine
   n = turned_to who m
 
   -- the thread's store to the timer is that of the step
-  pub store_of : (t : Thread) → m.threads who ≡ Some t → (o : Option Executed) → executes m who t ≡ o → timer_store m ≡ option_and_then to_timer o
+  pub store_of : (o : Option Executed) → executes m who t ≡ o → timer_store m ≡ option_and_then to_timer o
   unfolding timer_store
-  store_of t q o e =
+  store_of o e =
       ap (option_and_then (λ who. option_and_then (λ thread. option_and_then to_timer (executes m who thread)) (m.threads who))) acts
-      ∙ ap (option_and_then (λ thread. option_and_then to_timer (executes m who thread))) q
+      ∙ ap (option_and_then (λ thread. option_and_then to_timer (executes m who thread))) there
       ∙ ap (option_and_then to_timer) e
 
-  -- what the thread does is what the step does
-  effects_are : (t : Thread) → m.threads who ≡ Some t
-      → other_effects m ≡ (counted n (Some t) (acted n t)).machine
-  unfolding other_effects
-  effects_are t q =
-      ap (λ o. option_map_or (other_effects_of m) o m) acts ∙ ap (λ o. (counted n o (acted_if_there n o)).machine) q
+  -- a thread that ends, or ends its handler, stores nothing
+  pub end_stores_none : (ends_thread who t.pc ≡ true) ⊎ (ends_handler who t.pc ≡ true) → timer_store m ≡ None
+  end_stores_none ends = store_of None (go (ends_thread who t.pc) (ends_handler who t.pc) ends)
+    where
+      go : (a b : Bool) → (a ≡ true) ⊎ (b ≡ true) → (if a then None else (if b then None else Some (performed m who t).executed)) ≡ None
+      go true b e = refl
+      go false true e = refl
+      go false false (inl e) = absurd (false≢true e)
+      go false false (inr e) = absurd (false≢true e)
 
-  touched : (t : Thread) → m.threads who ≡ Some t → (after : Machine) → (acted n t).machine ≡ after
-      → ((last : Machine) → last.compare ≡ after.compare → last.claims ≡ after.claims → Touch m ByStep last) → Touch m ByStep (other_effects m)
-  touched t q after e of =
+  touched : (done : Machine) → (acted n t).machine ≡ done
+      → ((last : Machine) → last.compare ≡ done.compare → last.claims ≡ done.claims → Touch m ByStep last) → Touch m ByStep (other_effects m)
+  touched done e of =
       of (other_effects m)
-      (ap (λ (x : Machine). x.compare) (effects_are t q) ∙ ap (λ (x : Machine). x.compare) e)
-      (ap (λ (x : Machine). x.claims) (effects_are t q) ∙ ap (λ (x : Machine). x.claims) e)
+      (ap (λ (x : Machine). x.compare) (effects_are m who t acts there) ∙ ap (λ (x : Machine). x.compare) e)
+      (ap (λ (x : Machine). x.claims) (effects_are m who t acts there) ∙ ap (λ (x : Machine). x.claims) e)
 
   -- without a store to the timer
-  unstored : (t : Thread) → m.threads who ≡ Some t → timer_store m ≡ None → (after : Machine) → (acted n t).machine ≡ after → FateOf m after
-      → Touch m ByStep (other_effects m)
-  unstored t q none after e of =
-      touched t q after e
+  unstored : timer_store m ≡ None → (done : Machine) → (acted n t).machine ≡ done → FateOf m done → Touch m ByStep (other_effects m)
+  unstored none done e of =
+      touched done e
       (λ last compare claims. without_store m none last
       (subst (λ o. Fate m.compare (m.claims TIMER_INTERRUPT) o (last.claims TIMER_INTERRUPT)) (sym compare)
-      (subst (λ f. Fate m.compare (m.claims TIMER_INTERRUPT) after.compare (f TIMER_INTERRUPT)) (sym claims) of)))
+      (subst (λ f. Fate m.compare (m.claims TIMER_INTERRUPT) done.compare (f TIMER_INTERRUPT)) (sym claims) of)))
 
-  by_executed : (t : Thread) → m.threads who ≡ Some t → (x : Executed) → executes m who t ≡ Some x → Touch m ByStep (other_effects m)
+  by_executed : (x : Executed) → executes m who t ≡ Some x → (acted n t).machine ≡ (executed n t x).machine → Touch m ByStep (other_effects m)
   unfolding stored timer_set
-  by_executed t q (Next regs pc) e =
-      unstored t q (store_of t q _ e) (executed n t (Next regs pc)).machine (ap (λ told. told.machine) (acted_as_executed m who t _ e)) (as_before m)
-  by_executed t q (Stores address width value regs pc) e =
-      unstored t q (store_of t q _ e) (executed n t (Stores address width value regs pc)).machine
-      (ap (λ told. told.machine) (acted_as_executed m who t _ e)) (as_before m)
-  by_executed t q (StoresToConsole offset value regs pc) e =
-      unstored t q (store_of t q _ e) (executed n t (StoresToConsole offset value regs pc)).machine
-      (ap (λ told. told.machine) (acted_as_executed m who t _ e)) (as_before m)
-  by_executed t q (StoresToTimer offset width value regs pc) e =
-      touched t q (executed n t (StoresToTimer offset width value regs pc)).machine (ap (λ told. told.machine) (acted_as_executed m who t _ e))
-      (λ last compare claims. by_store m offset width value last (store_of t q _ e) compare claims)
-  by_executed t q CallsKernel e =
-      unstored t q (store_of t q _ e) (executed n t CallsKernel).machine (ap (λ told. told.machine) (acted_as_executed m who t _ e))
-      (settled_fate n (call n (arguments_of t.regs)) (call_fate n (arguments_of t.regs)))
-  by_executed t q (Traps cause value) e =
-      unstored t q (store_of t q _ e) (executed n t (Traps cause value)).machine (ap (λ told. told.machine) (acted_as_executed m who t _ e))
-      (death_fate who.pid n)
+  by_executed (Next regs pc) e is = unstored (store_of _ e) _ is (as_before m)
+  by_executed (Stores address width value regs pc) e is = unstored (store_of _ e) _ is (as_before m)
+  by_executed (StoresToConsole offset value regs pc) e is = unstored (store_of _ e) _ is (as_before m)
+  by_executed (StoresToTimer offset width value regs pc) e is =
+      touched _ is (λ last compare claims. by_store m offset width value last (store_of _ e) compare claims)
+  by_executed CallsKernel e is =
+      unstored (store_of _ e) _ is (settled_fate n (call n (arguments_of t.regs)) (call_fate n (arguments_of t.regs)))
+  by_executed (Traps cause value) e is = unstored (store_of _ e) _ is (death_fate who.pid n)
 
-  -- a thread that ends, or ends its handler, executes nothing
-  pub executes_if : (t : Thread) (a b : Bool) → ends_thread who t.pc ≡ a → ends_handler who t.pc ≡ b
-      → executes m who t ≡ (if a then None else (if b then None else Some (performed m who t).executed))
-  executes_if t a b p q =
-      (λ i. if p i then None else (if ends_handler who t.pc then None else Some (performed m who t).executed))
-      ∙ (λ i. if a then None else (if q i then None else Some (performed m who t).executed))
-
-  acted_if : (t : Thread) (a b : Bool) → ends_thread who t.pc ≡ a → ends_handler who t.pc ≡ b
-      → acted n t ≡ then_acted m who [] t a b (performed n who t).executed
-  acted_if t a b p q =
-      (λ i. then_acted m who [] t (p i) (ends_handler who t.pc) (performed n who t).executed)
-      ∙ (λ i. then_acted m who [] t a (q i) (performed n who t).executed)
-
-  by_kind : StepKind m who → Touch m ByStep (other_effects m)
-  by_kind (Executes t x q e) = by_executed t q x e
-  by_kind (ThreadEnds t q e) =
-      unstored t q (store_of t q None (executes_if t true (ends_handler who t.pc) e refl)) (settled (thread_ended who (reg_at t.regs 10) n)).machine
-      (ap (λ told. told.machine) (acted_if t true (ends_handler who t.pc) e refl)) (thread_end_fate who (reg_at t.regs 10) n)
-  by_kind (HandlerEnds t q low e) =
-      unstored t q (store_of t q None (executes_if t false true low e)) (settled (handler_ended who.pid n)).machine
-      (ap (λ told. told.machine) (acted_if t false true low e)) (handler_end_fate who.pid n)
+  by_act : (done : Told) → ActCase m who t done → (acted n t).machine ≡ done.machine → Touch m ByStep (other_effects m)
+  by_act _ (Instructs x e) is = by_executed x e is
+  by_act _ (EndsThread e) is = unstored (end_stores_none (inl e)) _ is (thread_end_fate who (reg_at t.regs 10) n)
+  by_act _ (EndsHandler e) is = unstored (end_stores_none (inr e)) _ is (handler_end_fate who.pid n)
 
 -- ---- any moment
 
@@ -216,7 +185,7 @@ by_step : (m : Machine) (o : Option ThreadId) → actor m ≡ o → Touch m BySt
 by_step m None e =
     let idle = no_actor m e in
     subst (Touch m ByStep) (sym idle.1) (without_store m idle.0 m (as_before m))
-by_step m (Some who) e = by_kind m who e (kind_of m who e)
+by_step m (Some who) e = let act = act_of m who e in by_act m who act.thread e act.there (acted (turned_to who m) act.thread) act.case refl
 
 irq_fate : (k : ℕ) (m : Machine) (o : Option Claim) → FateOf m (raised_if k o (unreserved m)).machine
 unfolding settled

@@ -1,62 +1,21 @@
 -- The timer over a run: it is armed exactly since an arming that nothing has touched, so each raise is that of an arming.
-use Rattle.std.proofs.Common.{◌≡◌, ℕ, zero, suc, ◌+◌, ◌<◌, ◌≤◌, ◌⊎◌, Bool, true, false, List, [], ◌∷◌, get_or, length, Option, Some, None, refl, sym, ap, ◌∙◌, subst, inl, inr, arith}
+use Rattle.std.proofs.Common.{◌≡◌, ℕ, zero, suc, ◌+◌, ◌<◌, ◌≤◌, ◌⊎◌, true, List, [], ◌∷◌, get_or, length, Some, None, refl, sym, ap, ◌∙◌, subst, inl, inr, arith}
 use Rattle.std.specs.Prelude.{is_some, slice_get}
 use Rattle.std.proofs.lemmas.Bool.{cases_lt}
 use Rattle.std.proofs.lemmas.Option.{none-some, same_Some, slice_get-get_or, slice_get_within}
-use Rattle.xk_base.specs.declared.ids.Pid.{Pid}
-use Rattle.xk_base.specs.declared.ids.ThreadId.{ThreadId}
 use Rattle.xk_base.specs.declared.limits.TheConstants.{TIMER_INTERRUPT}
 use Rattle.xk_base.specs.declared.pages.Width.TheVariants.{Word}
-use Rattle.machine_model.specs.Ending.Closing.{closed, servers_closed, senders_queued_gone, senders_held_gone}
-use Rattle.machine_model.specs.Ending.Ends.{death, forgotten}
-use Rattle.machine_model.specs.Runs.Moments.{Cause, ByStep, ByPick, ByIrq, ByKill, ByTurn, IsRun, Moment, caused, state_at}
-use Rattle.machine_model.specs.State.Changes.{settled}
+use Rattle.machine_model.specs.Runs.Moments.{ByStep, ByTurn, IsRun, Moment, caused, state_at}
 use Rattle.machine_model.specs.State.Machine.{Claim, Machine}
-use Rattle.machine_model.specs.State.Order.{actor, turn}
-use Rattle.machine_model.specs.Stepping.Events.{killed, killed_if, picked, raised, raised_if}
-use Rattle.machine_model.specs.Stepping.Reservations.{unreserved}
-use Rattle.machine_model.specs.Stepping.Step.{step}
-use Rattle.machine_model.proofs.StepLemmas.{no_step, one_step}
-use Rattle.machine_model.proofs.Runs.TimerLemmas.{pended_raised}
+use Rattle.machine_model.specs.State.Order.{actor}
+use Rattle.machine_laws.proofs.Histories.LimitLemmas.{step_steps}
+use Rattle.confidentiality_laws.proofs.CauseCaseLemmas.{cause_counts}
 use Rattle.interrupt_laws.specs.Arming.{Arms, Disarms, EndsClaim, LeavesTimer, TimerStore}
 use Rattle.interrupt_laws.specs.Raising.{IsRaise}
 use Rattle.interrupt_laws.specs.TimerLaw.{ArmingsAreMoments, IsArmedAt, IsArming, IsLeft, IsRaisedBy, IsRaisedByAny, IsRaising, IsStepOf}
 use Rattle.interrupt_laws.specs.TimerLaw.{TimerHolds, TimerLaw, steps_at}
 use Rattle.interrupt_laws.proofs.Runs.MomentLemmas.{Armed, Disarmed, Left, Touch, effects_of, touch_of}
 use Rattle.interrupt_laws.proofs.Runs.RaiseLemmas.{decides}
-
--- ---- steps are counted
-
-irq_counts : (k : ℕ) (m : Machine) (o : Option Claim) → m.steps ≤ (raised_if k o (unreserved m)).machine.steps
-irq_counts k m None = omega arith
-irq_counts k m (Some claim) =
-    let e : (raised_if k (Some claim) (unreserved m)).machine.steps ≡ m.steps =
-    ap (λ (x : Machine). x.steps) (pended_raised k claim (unreserved m)).is in
-    omega (arith, e)
-
-kill_counts : (pid : Pid) (m : Machine) (b : Bool) → m.steps ≤ (killed_if b pid (unreserved m)).machine.steps
-unfolding settled death servers_closed closed senders_queued_gone senders_held_gone forgotten
-kill_counts pid m true = omega arith
-kill_counts pid m false = omega arith
-
-step_counts : (m : Machine) (o : Option ThreadId) → actor m ≡ o → m.steps ≤ (step m).machine.steps
-step_counts m None e = let same : (step m).machine.steps ≡ m.steps = ap (λ s. s.machine.steps) (no_step m e) in omega (arith, same)
-step_counts m (Some who) e = let next : (step m).machine.steps ≡ m.steps + 1 = one_step m who e in omega (arith, next)
-
-counts : (cause : Cause) (m : Machine) → m.steps ≤ (caused cause m).steps
-unfolding picked raised killed turn
-counts ByStep m = step_counts m (actor m) refl
-counts (ByPick who) m = omega arith
-counts (ByIrq k) m = irq_counts k m (m.claims k)
-counts (ByKill pid) m = kill_counts pid m (m.process pid.0).alive
-counts ByTurn m = omega arith
-
-acting : (m : Machine) → is_some (actor m) ≡ true → (step m).machine.steps ≡ m.steps + 1
-acting m e = go (actor m) refl e
-  where
-    go : (o : Option ThreadId) → actor m ≡ o → is_some o ≡ true → (step m).machine.steps ≡ m.steps + 1
-    go None q h = absurd (cc)
-    go (Some who) q h = one_step m who q
 
 -- ---- moments of a run
 
@@ -104,7 +63,7 @@ module _ (start : Machine) (moments : List Moment) (run : IsRun start moments) w
       next = next_of start moments k moment.0 run moment.1
 
       one : (at k).steps ≤ (at (suc k)).steps
-      one = subst (λ (x : Machine). (at k).steps ≤ x.steps) (sym (next.now ∙ next.leads)) (counts moment.0.cause (at k))
+      one = subst (λ (x : Machine). (at k).steps ≤ x.steps) (sym (next.now ∙ next.leads)) (cause_counts moment.0.cause (at k)).0
 
       go : (j ≤ k → (at j).steps ≤ (at k).steps) → (j < suc k) ⊎ (suc k ≤ j) → (at j).steps ≤ (at (suc k)).steps
       go earlier (inl lt) = let before : (at j).steps ≤ (at k).steps = earlier (omega (arith, lt)) in omega (arith, before, one)
@@ -116,7 +75,7 @@ module _ (start : Machine) (moments : List Moment) (run : IsRun start moments) w
   step_climbs j k lt low moment e by acts =
       let next : IsNext start moments j moment = next_of start moments j moment run e in
       let counted : (at (suc j)).steps ≡ (at j).steps + 1 =
-      ap (λ (x : Machine). x.steps) (next.now ∙ next.leads ∙ ap (λ c. caused c (at j)) by) ∙ acting (at j) acts in
+      ap (λ (x : Machine). x.steps) (next.now ∙ next.leads ∙ ap (λ c. caused c (at j)) by) ∙ step_steps (at j) acts in
       let later : (at (suc j)).steps ≤ (at k).steps = state_climbs (suc j) k (omega (arith, lt)) low in
       omega (arith, counted, later)
 
@@ -294,9 +253,6 @@ module _ (start : Machine) (moments : List Moment) (run : IsRun start moments) w
     armed : IsArmedAt number start moments place
     order : place ≤ suc j
     left : IsLeft start moments place j
-
-  number_of : ℕ → ℕ
-  number_of j = (at j).steps + 1
 
   due_effects : (j : ℕ) (moment : Moment) → IsRaise (at j) moment.cause → (effects_of moment.cause (at j)).compare ≡ Some ((at j).steps + 1)
   due_effects j moment r = ap (λ c. (effects_of c (at j)).compare) r.step ∙ r.due

@@ -1,7 +1,6 @@
-use Rattle.machine_model.proofs.Runs.ReservingLemmas.{reservation_holds}
 use Rattle.machine_laws.proofs.Histories.ReservedLemmas.{history_reserved}
 use Rattle.laws.proofs.HistoryLemmas.{history_reserves}
-use Rattle.laws.proofs.ReservedLemmas.{every_reservation_holds}
+use Rattle.laws.proofs.ReservedLemmas.{every_reservation_holds, reservation_holds}
 use Rattle.laws.proofs.reservation_is_of_one_thread.Goals as goal
 
 -- src/lib.rt

@@ -26,22 +26,21 @@ use Rattle.machine_model.specs.Ending.Closing.{closed, senders_held_gone, sender
 use Rattle.machine_model.specs.Ending.Ends.{death, end_with_last_thread, forgotten, handler_ended, has_threads, joiners_answered, thread_ended}
 use Rattle.machine_model.specs.Hart.Instructions.{CallsKernel, Executed, Next, Stores, StoresToConsole, StoresToTimer, Traps}
 use Rattle.machine_model.specs.Runs.Matched.{HasHandlerThread, Matched, is_waiting_for, waits_for}
-use Rattle.machine_model.specs.Runs.Moments.{Cause, ByStep, ByPick, ByIrq, ByKill, ByTurn, caused}
+use Rattle.machine_model.specs.Runs.Moments.{Cause, ByStep, caused}
 use Rattle.machine_model.specs.State.Changes.{Change, Outcome, Refused, Retried, Served, Told, call_settled, death_told, delivery_told, replies, settled, with_refusal}
 use Rattle.machine_model.specs.State.Machine.{Claim, Idle, Joining, Machine, Ready, Receiving, Thread, ThreadState, Waiting}
 use Rattle.machine_model.specs.State.Order.{actor, is_ready, turn}
 use Rattle.machine_model.specs.State.Threads.{Answers, both_answers, change_thread, handler_thread, passed, put_thread, thread_id, with_answer, with_registers, with_state}
 use Rattle.machine_model.specs.State.Views.{stored, timer_set}
-use Rattle.machine_model.specs.Stepping.Events.{killed, killed_if, picked, raised, raised_if}
 use Rattle.machine_model.specs.Stepping.Interrupts.{delivered, delivered_lowest, handler_started, is_free_for_interrupt, lowest_pending, pended}
 use Rattle.machine_model.specs.Stepping.Reservations.{unreserved}
-use Rattle.machine_model.specs.Stepping.Step.{Recorded, acted_if_there, after, counted, ends_handler, ends_thread, executed, performed, record_of, step}
+use Rattle.machine_model.specs.Stepping.Step.{Recorded, acted, counted, executed, record_of}
 use Rattle.machine_model.specs.Stepping.Timer.{is_due, raised_by_timer, timed, timed_if}
-use Rattle.machine_model.proofs.StepLemmas.{no_step}
+use Rattle.confidentiality_laws.specs.TwoRuns.{records_by}
+use Rattle.confidentiality_laws.proofs.CauseCaseLemmas.{ActCase, CauseCase, EndsHandler, EndsThread, Instructs, Kills, Raises, Rests, Steps, case_of}
 use Rattle.transcript_laws.specs.Answering.{awaits_reply, is_waiting}
 use Rattle.transcript_laws.specs.Serving.{DiesIn, told_by}
 use Rattle.transcript_laws.proofs.Following.StepLemmas.{numbered}
-use Rattle.lifetime_laws.proofs.Fairness.SteppedLemmas.{step_is}
 use Rattle.transcript_laws.proofs.Serving.ServedStepLemmas.{timed_tells}
 use Rattle.lifetime_laws.proofs.Answering.FreedCallLemmas.{Leaves, call_leaves}
 
@@ -272,35 +271,16 @@ module _ (m : Machine) (h : Matched m) (id : ThreadId) (waits : is_waiting (m.th
         (delivered who.pid (change_thread (thread_id who.pid 1) (with_state Idle) n)).machine.cursor
         (ap (λ b. if b then option_map (with_state Idle) (m.threads (thread_id who.pid 1)) else m.threads id) (no_handler who.pid)))
 
-    acted_keeps : (o : Option Thread) → Kept (acted_if_there n o).machine (acted_if_there n o).told
-    acted_keeps None = IsSame refl
-    acted_keeps (Some t) = go (ends_thread who t.pc) (ends_handler who t.pc)
-      where
-        done : Bool → Bool → Told
-        done a b =
-            if a then after (End who) (settled (thread_ended who (reg_at t.regs 10) n)) else (
-            if b then after (End who) (settled (handler_ended who.pid n)) else
-            executed n t (performed n who t).executed)
-
-        go : (a b : Bool) → Kept (done a b).machine (done a b).told
-        go true b = with_more (End who) _ _ (thread_end_keeps (reg_at t.regs 10))
-        go false true = with_more (End who) _ _ handler_end_keeps
-        go false false = executed_keeps t (performed n who t).executed
+    act_keeps : (t : Thread) (done : Told) → ActCase m who t done → Kept done.machine done.told
+    act_keeps t _ (Instructs x e) = executed_keeps t x
+    act_keeps t _ (EndsThread e) = with_more (End who) _ _ (thread_end_keeps (reg_at t.regs 10))
+    act_keeps t _ (EndsHandler e) = with_more (End who) _ _ handler_end_keeps
 
     counted_keeps : (o : Option Thread) (done : Told) → Kept done.machine done.told
         → Kept (counted n o done).machine (counted n o done).told
     counted_keeps o done (IsSame e) = IsSame e
     counted_keeps o done (IsReplied words at) = IsReplied words at
     counted_keeps o done (IsGone at) = IsGone at
-
-    step_keeps : Kept (step m).machine (told_by ByStep m)
-    step_keeps =
-        subst (λ (s : Recorded). Kept s.machine (map (λ (rec : Rec). rec.what) s.records)) (sym (step_is m who acts))
-        (subst (Kept (timed done).machine) (sym (numbered (m.steps + 1) (timed done).told))
-        (timed_keeps done (counted_keeps (m.threads who) (acted_if_there n (m.threads who)) (acted_keeps (m.threads who)))))
-      where
-        done : Told
-        done = counted n (m.threads who) (acted_if_there n (m.threads who))
 
   -- ---- any cause
 
@@ -309,24 +289,18 @@ module _ (m : Machine) (h : Matched m) (id : ThreadId) (waits : is_waiting (m.th
   recorded_keeps k done kept = subst (Kept done.machine) (sym (numbered k done.told)) kept
 
   pub cause_keeps : (cause : Cause) → Kept (caused cause m) (told_by cause m)
-  unfolding picked raised killed turn
-  cause_keeps ByStep = go (actor m) refl
+  cause_keeps cause = by cause (record { machine = caused cause m; records = records_by cause m }) (case_of cause m)
     where
-      go : (o : Option ThreadId) → actor m ≡ o → Kept (step m).machine (told_by ByStep m)
-      go None e = IsSame (ap (λ (s : Recorded). s.machine.threads id) (no_step m e))
-      go (Some who) e = step_keeps who e
-  cause_keeps (ByPick who) = IsSame refl
-  cause_keeps (ByIrq k) = IsSame (go (m.claims k))
-    where
-      go : (o : Option Claim) → (raised_if k o (unreserved m)).machine.threads id ≡ m.threads id
-      go None = refl
-      go (Some claim) = pended_keeps k claim (unreserved m) refl
-  cause_keeps (ByKill pid) = go (m.process pid.0).alive
-    where
-      go : (b : Bool) → Kept (killed_if b pid (unreserved m)).machine (map (λ (rec : Rec). rec.what) (killed_if b pid (unreserved m)).records)
-      go true = recorded_keeps m.steps (settled (death pid (unreserved m))) (death_keeps pid (unreserved m) (death pid (unreserved m)).answers refl refl)
-      go false = IsSame refl
-  cause_keeps ByTurn = IsSame refl
+      by : (cause : Cause) (next : Recorded) → CauseCase m cause next → Kept next.machine (map (λ (rec : Rec). rec.what) next.records)
+      by _ _ (Rests cause cursor reserved rest) = IsSame refl
+      by _ _ (Steps who t acts there case) =
+          let done : Told = acted (turned_to who m) t in
+          let here : Told = counted (turned_to who m) (Some t) done in
+          recorded_keeps (m.steps + 1) (timed here) (timed_keeps here (counted_keeps who acts (Some t) done (act_keeps who acts t done case)))
+      by _ _ (Raises k claim e) = IsSame (pended_keeps k claim (unreserved m) refl)
+      by _ _ (Kills pid e) =
+          let change : Change = death pid (unreserved m) in
+          recorded_keeps m.steps (settled change) (death_keeps pid (unreserved m) change.answers refl refl)
 
 -- what ends its wait for an answer
 pub freed_is_told : (cause : Cause) (m : Machine) → Matched m → (id : ThreadId) (number : Number) → waits_for m.threads id number ≡ true

@@ -1,31 +1,19 @@
 -- How many own steps a thread does in a number of steps of all threads.
-use Rattle.std.proofs.Common.{◌≡◌, ℕ, zero, suc, ◌+◌, ◌*◌, ◌<◌, ◌≤◌, List, Option, Some, None, refl, sym, ap, ◌∙◌, arith}
+use Rattle.std.proofs.Common.{◌≡◌, ℕ, zero, suc, ◌+◌, ◌*◌, ◌<◌, ◌≤◌, List, sym, ap, ◌∙◌, arith}
 use Rattle.std.proofs.Math.Nat.{suc-mul}
 use Rattle.std.proofs.lemmas.Option.{none-some, same_Some}
 use Rattle.xk_base.specs.declared.ids.ThreadId.{ThreadId}
-use Rattle.machine_laws.proofs.Histories.LimitLemmas.{irq_steps, kill_steps, pick_steps, turn_steps}
-use Rattle.machine_model.specs.Runs.Moments.{Cause, ByStep, ByPick, ByIrq, ByKill, ByTurn, Moment, IsRun, caused, state_at}
+use Rattle.confidentiality_laws.proofs.CauseCaseLemmas.{cause_counts}
+use Rattle.machine_model.specs.Runs.Moments.{ByStep, Moment, IsRun, caused, state_at}
 use Rattle.machine_model.specs.State.Machine.{Machine}
-use Rattle.machine_model.specs.State.Order.{actor}
-use Rattle.machine_model.specs.Stepping.Step.{Recorded, step}
-use Rattle.machine_model.proofs.StepLemmas.{no_step, one_step}
+use Rattle.machine_model.specs.Stepping.Step.{step}
+use Rattle.machine_model.proofs.StepLemmas.{one_step}
 use Rattle.transcript_laws.specs.Turns.{DoesStep}
 use Rattle.transcript_laws.proofs.Turning.FairLemmas.{Caused, Ended, Link, link}
 use Rattle.lifetime_laws.specs.Prompt.{DoesSteps}
 use Rattle.lifetime_laws.specs.Scheduling.{AreStepsFair, IsInLine, StepsWithin, steps_ahead}
 
 -- ---- what a moment counts
-
-cause_counts : (cause : Cause) (m : Machine) → (caused cause m).steps ≤ m.steps + 1
-cause_counts ByStep m = go (actor m) refl
-  where
-    go : (o : Option ThreadId) → actor m ≡ o → (step m).machine.steps ≤ m.steps + 1
-    go None e = let same : (step m).machine.steps ≡ m.steps = ap (λ (s : Recorded). s.machine.steps) (no_step m e) in omega arith
-    go (Some who) e = let one : (step m).machine.steps ≡ m.steps + 1 = one_step m who e in omega arith
-cause_counts (ByPick who) m = let same : (caused (ByPick who) m).steps ≡ m.steps = pick_steps who m in omega arith
-cause_counts (ByIrq k) m = let same : (caused (ByIrq k) m).steps ≡ m.steps = irq_steps k m in omega arith
-cause_counts (ByKill pid) m = let same : (caused (ByKill pid) m).steps ≡ m.steps = kill_steps pid m in omega arith
-cause_counts ByTurn m = let same : (caused ByTurn m).steps ≡ m.steps = turn_steps m in omega arith
 
 module _ (start : Machine) (moments : List Moment) (run : IsRun start moments) where
   abbrev at : ℕ → Machine
@@ -37,7 +25,7 @@ module _ (start : Machine) (moments : List Moment) (run : IsRun start moments) w
       go : Link start moments i → (at (suc i)).steps ≤ (at i).steps + 1
       go (Caused moment there e) =
           let same : (at (suc i)).steps ≡ (caused moment.cause (at i)).steps = ap (λ (m : Machine). m.steps) e in
-          let le : (caused moment.cause (at i)).steps ≤ (at i).steps + 1 = cause_counts moment.cause (at i) in
+          let le : (caused moment.cause (at i)).steps ≤ (at i).steps + 1 = (cause_counts moment.cause (at i)).1 in
           omega arith
       go (Ended none e) = let same : (at (suc i)).steps ≡ (at i).steps = ap (λ (m : Machine). m.steps) e in omega arith
 

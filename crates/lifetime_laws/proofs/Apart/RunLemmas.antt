@@ -20,6 +20,7 @@ use Rattle.machine_model.specs.Stepping.Acts.{does_instruction}
 use Rattle.machine_model.specs.Stepping.Step.{step}
 use Rattle.machine_model.proofs.StepLemmas.{no_step}
 use Rattle.machine_laws.proofs.Stepping.EveryStepLemmas.{every_cause_keeps}
+use Rattle.confidentiality_laws.proofs.CauseCaseLemmas.{is_step}
 use Rattle.noninterference_laws.specs.Integrity.{LeavesOthers}
 use Rattle.noninterference_laws.specs.Causes.{LeavesAll, StepKeepsOthers, by_step}
 use Rattle.noninterference_laws.specs.Fates.{Doing, Gains, Loses, MadeCall, Own, ServerFate, ServerStays}
@@ -153,15 +154,7 @@ instruction_left pid m who alone apart leaves = (untouched, still_alone pid m (s
 
 -- ---- each cause
 
-is_step : Cause → Bool
-is_step ByStep = true
-is_step (ByPick who) = false
-is_step (ByIrq k) = false
-is_step (ByKill pid) = false
-is_step ByTurn = false
-
 no_kill_step : (pid : Pid) → ByKill pid ≡ ByStep → ⊥
-unfolding is_step
 no_kill_step pid e = false≢true (ap is_step e)
 
 step_left : (m : Machine) (pid : Pid) → Matched m → SharesNothing pid m → IsOfOthers pid m ByStep → IsLeft pid m (step m).machine

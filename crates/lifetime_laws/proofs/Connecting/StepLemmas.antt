@@ -91,7 +91,7 @@ every_moment_connects cause m h = by cause (record { machine = caused cause m; r
   where
     by : (cause : Cause) (next : Recorded) → CauseCase m cause next → (caused cause m).process ≡ next.machine.process
         → ConnectsByOwnCalls m (moment_of cause m)
-    by _ _ (Rests cause cursor reserved) is = old_connects m (moment_of cause m) (same_old m.process (caused cause m).process is)
+    by _ _ (Rests cause cursor reserved rest) is = old_connects m (moment_of cause m) (same_old m.process (caused cause m).process is)
     by _ _ (Steps who t acts there case) is = act_connects m who acts t there (acted (turned_to who m) t) case (step_like m who t acts there).process
     by _ _ (Raises k claim e) is =
         old_connects m (moment_of (ByIrq k) m)

@@ -14,9 +14,10 @@ use Rattle.machine_model.specs.Messaging.MessageCounts.{HasNone}
 use Rattle.machine_model.specs.Messaging.Messages.{is_lend_of}
 use Rattle.machine_model.specs.Runs.LoanSpan.{IsServedCallOf, is_send}
 use Rattle.machine_model.specs.Runs.Matched.{is_living}
-use Rattle.machine_model.specs.Runs.Moments.{ByIrq, ByKill, ByPick, ByStep, ByTurn, Cause, Moment}
+use Rattle.machine_model.specs.Runs.Moments.{ByKill, ByStep, Cause, Moment}
 use Rattle.machine_model.specs.State.Machine.{Machine}
 use Rattle.machine_model.specs.Stepping.Acts.{call_by}
+use Rattle.confidentiality_laws.proofs.CauseCaseLemmas.{is_step}
 use Rattle.confidentiality_laws.proofs.Keeping.StandingPageLemmas.{homed_once, not_both}
 use Rattle.lifetime_laws.specs.Causes.{IsCallOf}
 use Rattle.lifetime_laws.specs.Deeds.{Allocated, Bereft, Deed, Forwarded, GivenBack, GivenUp, Grown, Lent, LivesOn, Mapped, Moved}
@@ -35,15 +36,7 @@ orphaned_once p q e = ap place_named e
 
 -- ---- causes
 
-is_step : Cause → Bool
-is_step ByStep = true
-is_step (ByPick who) = false
-is_step (ByIrq k) = false
-is_step (ByKill pid) = false
-is_step ByTurn = false
-
 no_kill_step : (pid : Pid) (cause : Cause) → cause ≡ ByKill pid → cause ≡ ByStep → ⊥
-unfolding is_step
 no_kill_step pid cause kill step = false≢true (ap is_step (sym kill ∙ step))
 
 -- a moment has one call

@@ -1,5 +1,5 @@
 -- Pages live through whatever leads from a matched state to the next.
-use Rattle.std.proofs.Common.{◌≡◌, ◌⊎◌, ℕ, Bool, true, false, Some, None, refl, sym, ap, ◌∙◌, inl, inr}
+use Rattle.std.proofs.Common.{◌≡◌, ◌⊎◌, ℕ, true, false, Some, None, refl, sym, ap, ◌∙◌, inl, inr}
 use Rattle.std.specs.Prelude.{if◌then◌else◌}
 use Rattle.std.proofs.lemmas.Bool.{false≢true}
 use Rattle.std.proofs.lemmas.Option.{none-some, same_Some}
@@ -14,7 +14,7 @@ use Rattle.machine_model.specs.Hart.Instructions.{CallsKernel, Executed, Next, S
 use Rattle.machine_model.specs.Runs.Isolation.{IsOneStore}
 use Rattle.machine_model.specs.Runs.LoanSpan.{IsForwarded}
 use Rattle.machine_model.specs.Runs.Matched.{Matched}
-use Rattle.machine_model.specs.Runs.Moments.{ByIrq, ByKill, ByPick, ByStep, ByTurn, Cause, moment_of}
+use Rattle.machine_model.specs.Runs.Moments.{ByIrq, ByKill, ByStep, Cause, moment_of}
 use Rattle.machine_model.specs.State.Changes.{settled}
 use Rattle.machine_model.specs.State.Machine.{Idle, Machine, Thread}
 use Rattle.machine_model.specs.State.Order.{actor}
@@ -33,7 +33,7 @@ use Rattle.machine_laws.proofs.Threading.ThreadStepLemmas.{actor_ready, turned_t
 use Rattle.loan_laws.proofs.Fates.LikeLemmas.{IsLike, like_both, like_same, settled_like, step_like}
 use Rattle.confidentiality_laws.proofs.Spreading.CauseLemmas.{irq_ledger}
 use Rattle.confidentiality_laws.proofs.CauseCaseLemmas.{ActCase, CauseCase, EndCase, EndsHandler, EndsThread, Instructs, IsLast, Kills, LeavesOthers, Raises, Rests, StartCase, Starts}
-use Rattle.confidentiality_laws.proofs.CauseCaseLemmas.{StartsNone, Steps, case_of, end_of, start_of}
+use Rattle.confidentiality_laws.proofs.CauseCaseLemmas.{StartsNone, Steps, case_of, end_of, is_step, start_of}
 use Rattle.lifetime_laws.specs.Lives.{EveryMomentLives, PagesLive}
 use Rattle.lifetime_laws.proofs.Lives.CallLemmas.{call_lives}
 use Rattle.lifetime_laws.proofs.Lives.DeathLemmas.{death_lives}
@@ -134,21 +134,14 @@ module _ (m : Machine) (who : ThreadId) (h : Matched m) (acts : actor m ≡ Some
 
 -- ---- whatever it is
 
-is_step : Cause → Bool
-is_step ByStep = true
-is_step (ByPick who) = false
-is_step (ByIrq k) = false
-is_step (ByKill pid) = false
-is_step ByTurn = false
-
 pub every_moment_lives : EveryMomentLives
 every_moment_lives cause m h = by cause (record { machine = caused cause m; records = records_by cause m }) (case_of cause m) refl
   where
     no_call : (pid : Pid) (a : LoanRun) (number : Number) → IsForwarded number a m (moment_of (ByKill pid) m) → ⊥
-    no_call pid a number forwarded = unfold is_step in false≢true (ap is_step forwarded.served.step)
+    no_call pid a number forwarded = false≢true (ap is_step forwarded.served.step)
 
     by : (cause : Cause) (next : Recorded) → CauseCase m cause next → caused cause m ≡ next.machine → PagesLive m (moment_of cause m)
-    by _ _ (Rests cause cursor reserved) is = left_lives m (moment_of cause m) (ap (λ (x : Machine). x.ledger) is)
+    by _ _ (Rests cause cursor reserved rest) is = left_lives m (moment_of cause m) (ap (λ (x : Machine). x.ledger) is)
     by _ _ (Steps who t acts there case) is = act_lives m who h acts t there (acted (turned_to who m) t) case (step_like m who t acts there)
     by _ _ (Raises k claim e) is = left_lives m (moment_of (ByIrq k) m) (irq_ledger k m)
     by _ _ (Kills pid e) is =

@@ -61,15 +61,6 @@ orphan_of_some number (Some orphan) x e = go (same_number orphan.number number) 
     go true q r = refl
     go false q r = absurd (none-some x (sym q ∙ r))
 
-pub orphan_of_none : (number : Number) (o : Option Orphan) → orphan_of_number number (option_map loan_of_orphan o) ≡ None
-    → orphan_of number o ≡ None
-orphan_of_none number None e = refl
-orphan_of_none number (Some orphan) e = go (same_number orphan.number number) (orphan_loan_of number (Some orphan) ∙ e)
-  where
-    go : (b : Bool) → option_map loan_of_orphan (if b then Some orphan else None) ≡ None → (if b then Some orphan else None) ≡ None
-    go true q = absurd (none-some (loan_of_orphan orphan) (sym q))
-    go false q = refl
-
 -- a page without a loan is of no number
 pub unlent_of_none : (number : Number) (o : Option Page) → is_lent o ≡ false → lent_page_of number o ≡ None
 unlent_of_none number None e = refl

@@ -5,7 +5,6 @@ use Rattle.std.specs.Option.{option_map}
 use Rattle.std.proofs.lemmas.Option.{none-some, same_Some}
 use Rattle.xk_base.specs.declared.ids.Number.{Number}
 use Rattle.xk_base.specs.declared.ids.Place.{Place}
-use Rattle.xk_base.specs.declared.pages.LoanKind.{LoanKind}
 use Rattle.ledger_model.specs.Ledger.{PageLoan}
 use Rattle.ledger_model.specs.Loans.{LoanRun, OrphanLoan, loan_of_run, loans, of_number, orphan_of_number, orphan_of_run}
 use Rattle.ledger_model.specs.Places.{in_run, moved}
@@ -39,9 +38,6 @@ same_places h g n k a b same =
     (place_from h g there.0 (omega arith), omega arith)
 
 -- ---- runs of loans
-
-abbrev kind_of : PageLoan → LoanKind
-kind_of loan = loan.kind
 
 pub record SameRun (a b : LoanRun) : Type 0 where
   pub lender : a.lender ≡ b.lender

@@ -1,34 +1,18 @@
 -- The step of a call: where what comes of the call of its number is matched, so is the state after the step. The calls on memory.
-use Rattle.std.proofs.Common.{◌≡◌, ℕ, true, List, Some, refl, sym, subst}
-use Rattle.xk_base.specs.declared.ids.ThreadId.{ThreadId}
+use Rattle.std.proofs.Common.{◌≡◌, ℕ, true, List, refl, sym, subst}
 use Rattle.syscall_codec.specs.CallNumbers.{map_memory, increase_heap, decrease_heap, update_memory_flags, unmap_memory}
-use Rattle.syscall_codec.specs.CallWords.{call_number}
-use Rattle.machine_model.specs.Stepping.Acts.{call_by}
-use Rattle.machine_model.specs.Calling.Calls.{any_refusals, call, call_at, call_table}
-use Rattle.machine_model.specs.State.Changes.{Call, Outcome}
+use Rattle.machine_model.specs.Calling.Calls.{call_at, call_table}
+use Rattle.machine_model.specs.State.Changes.{Call}
 use Rattle.machine_model.specs.State.Machine.{Machine}
 use Rattle.machine_model.specs.Runs.Matched.{Matched}
 use Rattle.machine_model.specs.Calling.MemoryCalls.{decrease_call, increase_call, map_call, unmap_call, update_call}
-use Rattle.machine_model.specs.State.Order.{actor, ready_at}
-use Rattle.machine_model.specs.Stepping.Step.{step}
-use Rattle.machine_model.proofs.Runs.KeptLemmas.{matched_at}
+use Rattle.machine_model.specs.State.Order.{ready_at}
 use Rattle.machine_laws.proofs.Calling.AnsweredCallLemmas.{Keeps}
 use Rattle.machine_laws.proofs.Calling.HeapCallLemmas.{decrease_keeps, increase_keeps}
 use Rattle.machine_laws.proofs.Calling.MapCallLemmas.{map_keeps}
 use Rattle.machine_laws.proofs.Calling.MemoryCallStepLemmas.{unmap_keeps, update_keeps}
-use Rattle.machine_laws.proofs.Calling.ThreadCallLemmas.{call_keeps, unless_refused_keeps}
+use Rattle.machine_laws.proofs.Calling.ThreadCallLemmas.{call_keeps}
 use Rattle.machine_laws.proofs.Calling.ThreadCallStepLemmas.{KeepsNumber, StepKeeps, step_of_number}
-use Rattle.machine_laws.proofs.Threading.ThreadStepLemmas.{turned_to, call_step_keeps}
-
-pub step_kept : (m : Machine) (who : ThreadId) (words : List ℕ) (outcome : Outcome) → Matched m → actor m ≡ Some who
-    → call_by m who ≡ Some words → call_at (call_number words) call_table (turned_to who m) words ≡ outcome
-    → Keeps (turned_to who m) outcome → Matched (step m).machine
-unfolding call
-step_kept m who words outcome h e q c k =
-    let n : Machine = turned_to who m in
-    call_step_keeps m who words e q
-    (unless_refused_keeps n (matched_at who m h) (any_refusals n words) (call_at (call_number words) call_table n words)
-    (λ none. subst (Keeps n) (sym c) k))
 
 -- ---- the calls on memory
 

@@ -1,30 +1,25 @@
--- The steps in which a process dies: TerminateProcess, a fatal trap, and the end of its last thread above tid 1. Where its death keeps
--- the machine matched, they do.
-use Rattle.std.proofs.Common.{◌≡◌, ℕ, Bool, true, false, List, [], Option, Some, None, refl, sym, ap, ◌∙◌, subst}
+-- A process dies by TerminateProcess, or as its last thread above tid 1 ends. Where its death keeps the machine matched, they do.
+use Rattle.std.proofs.Common.{◌≡◌, ℕ, Bool, true, false, List, Option, Some, None, refl, sym, ap, ◌∙◌, subst}
 use Rattle.std.specs.Prelude.{◌==◌, if◌then◌else◌}
 use Rattle.std.specs.Option.{option_map, option_or}
 use Rattle.std.proofs.lemmas.Bool.{and_left, eq-eqb}
-use Rattle.std.proofs.lemmas.Option.{none-some, same_Some}
 use Rattle.xk_base.specs.declared.ids.Pid.{Pid}
 use Rattle.xk_base.specs.declared.ids.ThreadId.{ThreadId}
 use Rattle.syscall_codec.specs.CallNumbers.{terminate_process}
 use Rattle.syscall_codec.specs.CallWords.{call_number}
 use Rattle.xk_base.specs.Tables.Circle.{same_thread}
 use Rattle.xk_base.specs.Tables.Counting.{put_at}
-use Rattle.xk_base.specs.Calls.Registers.{reg_at}
 use Rattle.syscall_codec.specs.ReplyWords.{scalar1_words}
-use Rattle.machine_model.specs.Stepping.Acts.{call_by, executes}
+use Rattle.machine_model.specs.Stepping.Acts.{call_by}
 use Rattle.machine_model.specs.Calling.Calls.{call}
 use Rattle.machine_model.specs.State.Changes.{Change, call_settled, settled}
 use Rattle.machine_model.specs.Ending.Closing.{any_server, closed, servers_closed, senders_queued_gone, senders_held_gone}
 use Rattle.machine_model.specs.Ending.Ends.{death, forgotten, thread_ended, has_threads, end_with_last_thread, joiners_answered, waits_for_end}
-use Rattle.machine_model.specs.Hart.Atomics.{Performed}
-use Rattle.machine_model.specs.Hart.Instructions.{Executed, Traps}
 use Rattle.machine_model.specs.State.Machine.{Machine, Thread}
 use Rattle.machine_model.specs.Runs.Kept.{Settles}
 use Rattle.machine_model.specs.Runs.Matched.{Matched}
 use Rattle.machine_model.specs.State.Order.{actor}
-use Rattle.machine_model.specs.Stepping.Step.{step, executed, ends_thread, ends_handler, performed}
+use Rattle.machine_model.specs.Stepping.Step.{step}
 use Rattle.machine_model.specs.Calling.ThreadCalls.{terminate_call}
 use Rattle.machine_model.specs.State.Threads.{Answers, put_thread, change_thread, passed, give_answers, both_answers, with_answer}
 use Rattle.machine_model.proofs.Runs.KeptLemmas.{matched_at}
@@ -32,7 +27,7 @@ use Rattle.machine_laws.proofs.Dying.DeathLemmas.{death_keeps}
 use Rattle.machine_laws.proofs.Calling.AnsweredCallLemmas.{Keeps}
 use Rattle.machine_laws.proofs.Calling.ThreadCallLemmas.{call_keeps}
 use Rattle.machine_laws.proofs.Threading.ThreadPutLemmas.{alike}
-use Rattle.machine_laws.proofs.Threading.ThreadStepLemmas.{turned_to, actor_ready, step_keeps, call_step_keeps, then_acted, performed_turned}
+use Rattle.machine_laws.proofs.Threading.ThreadStepLemmas.{turned_to, actor_ready, call_step_keeps}
 
 -- the death of the process keeps the machine matched
 abbrev pub DeathKeeps : Pid → Machine → Type 0
@@ -69,25 +64,6 @@ terminate_step m who w h e c number d =
     let k : Keeps (turned_to who m) (call (turned_to who m) w) =
     call_keeps (turned_to who m) (matched_at who m h) (actor_ready m who e) w 22 number (λ none. terminate_keeps (turned_to who m) w d) in
     call_step_keeps m who w e c k
-
--- ---- a trap
-
-trap_step : (m : Machine) (who : ThreadId) (t : Thread) (cause value : ℕ) → Matched m → actor m ≡ Some who → m.threads who ≡ Some t
-    → executes m who t ≡ Some (Traps cause value) → DeathKeeps who.pid (turned_to who m) → Matched (step m).machine
-trap_step m who t cause value h e there x d =
-    step_keeps m who t e there
-    (subst (Settles m) (sym (go (ends_thread who t.pc) (ends_handler who t.pc) (performed (turned_to who m) who t).executed
-    (ap (λ (y : Performed). if_fetched (ends_thread who t.pc) (ends_handler who t.pc) y.executed) (sym (performed_turned m who t)) ∙ x)))
-    d)
-  where
-    if_fetched : Bool → Bool → Executed → Option Executed
-    if_fetched a b y = if a then None else (if b then None else Some y)
-
-    go : (a b : Bool) (y : Executed) → (if a then None else (if b then None else Some y)) ≡ Some (Traps cause value)
-        → (then_acted m who [] t a b y).machine ≡ (settled (death who.pid (turned_to who m))).machine
-    go true b y q = absurd (none-some (Traps cause value) q)
-    go false true y q = absurd (none-some (Traps cause value) q)
-    go false false y q = ap (λ z. (executed (turned_to who m) t z).machine) (same_Some y (Traps cause value) q)
 
 -- ---- the last thread
 
@@ -134,15 +110,6 @@ last_keeps m who a0 last d =
     left_by : Change → Machine
     left_by left = give_answers (both_answers (joiners_answered m who a0) left.answers) left.machine
 
-last_thread_step : (m : Machine) (who : ThreadId) (t : Thread) → Matched m → actor m ≡ Some who → m.threads who ≡ Some t
-    → ends_thread who t.pc ≡ true → has_threads (put_thread who None m) who.pid ≡ false → DeathKeeps who.pid (turned_to who m) → Matched (step m).machine
-unfolding has_threads
-last_thread_step m who t h e there ends last d =
-    let k : Settles (turned_to who m) (settled (thread_ended who (reg_at t.regs 10) (turned_to who m))).machine =
-    last_keeps (turned_to who m) who (reg_at t.regs 10) last d in
-    step_keeps m who t e there (subst (λ b. Settles m (then_acted m who [] t b (ends_handler who t.pc) (performed (turned_to who m) who t).executed).machine)
-    (sym ends) k)
-
 -- ---- as steps
 
 module _ (m : Machine) (h : Matched m) (who : ThreadId) (e : actor m ≡ Some who) where
@@ -151,10 +118,3 @@ module _ (m : Machine) (h : Matched m) (who : ThreadId) (e : actor m ≡ Some wh
 
   pub terminates : (w : List ℕ) → call_by m who ≡ Some w → call_number w ≡ terminate_process → Matched (step m).machine
   terminates w c number = terminate_step m who w h e c number dies
-
-  pub traps : (t : Thread) (cause value : ℕ) → m.threads who ≡ Some t → executes m who t ≡ Some (Traps cause value) → Matched (step m).machine
-  traps t cause value there x = trap_step m who t cause value h e there x dies
-
-  pub last_thread_ends : (t : Thread) → m.threads who ≡ Some t → ends_thread who t.pc ≡ true
-      → has_threads (put_thread who None m) who.pid ≡ false → Matched (step m).machine
-  last_thread_ends t there ends last = last_thread_step m who t h e there ends last dies

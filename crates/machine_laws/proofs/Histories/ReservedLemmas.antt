@@ -1,6 +1,6 @@
 -- The reservation stays that of a thread that the machine can have.
 use Rattle.std.proofs.Common.{◌≡◌, ℕ, Bool, true, false, List, Option, Some, None, refl, sym, ap, subst, ◌∙◌}
-use Rattle.std.specs.Prelude.{IsTrue, if◌then◌else◌}
+use Rattle.std.specs.Prelude.{if◌then◌else◌}
 use Rattle.std.proofs.lemmas.Option.{same_Some}
 use Rattle.xk_base.specs.declared.events.Event.{Event}
 use Rattle.xk_base.specs.declared.ids.Pid.{Pid}
@@ -119,7 +119,7 @@ unfolding settled death servers_closed closed senders_queued_gone senders_held_g
 kill_reserved m pid true r h = absurd (let d : None ≡ Some r = h in cc)
 kill_reserved m pid false r h = absurd (let d : None ≡ Some r = h in cc)
 
-cause_reserved : (cause : Cause) (m : Machine) → Matched m → IsReservedByThread m → IsReservedByThread (caused cause m)
+pub cause_reserved : (cause : Cause) (m : Machine) → Matched m → IsReservedByThread m → IsReservedByThread (caused cause m)
 unfolding picked raised killed turn
 cause_reserved ByStep m h c = step_reserved m h c
 cause_reserved (ByPick who) m h c = c

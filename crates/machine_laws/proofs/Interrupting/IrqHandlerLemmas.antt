@@ -1,5 +1,5 @@
 -- The end of an interrupt handler keeps the machine matched.
-use Rattle.std.proofs.Common.{◌≡◌, arith, true, Option, Some, refl, sym, ap, subst}
+use Rattle.std.proofs.Common.{◌≡◌, arith, true, Option, Some, refl, sym, subst}
 use Rattle.std.specs.Option.{option_map}
 use Rattle.xk_base.specs.declared.ids.Pid.{Pid}
 use Rattle.xk_base.specs.declared.ids.ThreadId.{ThreadId}
@@ -12,7 +12,6 @@ use Rattle.machine_model.specs.State.Machine.{Machine, Thread, Idle}
 use Rattle.machine_model.specs.Runs.Kept.{Settles}
 use Rattle.machine_model.specs.Runs.Matched.{Matched}
 use Rattle.machine_model.specs.State.Order.{ready_at}
-use Rattle.machine_model.specs.Stepping.Step.{step}
 use Rattle.machine_model.specs.State.Threads.{thread_id, change_thread, with_state}
 use Rattle.machine_laws.proofs.Interrupting.IrqDeliveryLemmas.{KeepsDelivery, delivery_keeps, settled_unanswered}
 use Rattle.machine_laws.proofs.Threading.ThreadAnswerLemmas.{IsReadyThread, ready_thread, ready_put_matched, same_thread-self}

@@ -1,40 +1,25 @@
 -- What a matched machine says of its threads, messages and loans.
-use Rattle.std.proofs.Common.{◌≡◌, ℕ, ◌<◌, ◌≤◌, Bool, true, false, ◌⊎◌, inl, inr, Option, Some, None, get_or, refl, sym, ap, ◌∙◌, arith, subst}
+use Rattle.std.proofs.Common.{◌≡◌, ℕ, ◌<◌, ◌≤◌, Bool, true, false, inl, inr, Option, Some, None, get_or, refl, sym, ap, ◌∙◌, arith}
 use Rattle.std.specs.Prelude.{◌==◌, is_some}
 use Rattle.std.specs.List.{All, Contains}
-use Rattle.std.specs.Option.{option_map, option_map_or}
+use Rattle.std.specs.Option.{option_map_or}
 use Rattle.std.proofs.lemmas.Bool.{and_from, and_parts, eq-eqb, eqb-true, false≢true}
-use Rattle.std.proofs.lemmas.Bool.Decides.{nat_tests}
 use Rattle.std.proofs.lemmas.List.Elements.{Contains-get_or}
-use Rattle.std.proofs.lemmas.Option.{same_Some}
 use Rattle.xk_base.specs.declared.ids.Number.{Number}
-use Rattle.xk_base.specs.declared.ids.Pid.{Pid}
-use Rattle.xk_base.specs.declared.ids.Place.{Place}
 use Rattle.xk_base.specs.declared.ids.ThreadId.{ThreadId}
 use Rattle.xk_base.specs.declared.messages.Message.{Message}
 use Rattle.xk_base.specs.declared.pages.LoanKind.{LoanKind}
-use Rattle.xk_base.specs.Tables.Circle.{is_pid, is_thread_id, is_tid, same_thread}
-use Rattle.xk_base.proofs.CircleLemmas.{same_ids}
-use Rattle.ledger_model.specs.Ledger.{PageLoan, Orphan, loan_at}
-use Rattle.ledger_model.specs.Loans.{IsFresh, loans, loan_of_orphan, of_number, orphan_of_number, same_number}
+use Rattle.xk_base.specs.Tables.Circle.{is_thread_id, same_thread}
+use Rattle.ledger_model.specs.Loans.{IsFresh, loans, of_number, orphan_of_number, same_number}
 use Rattle.ledger_model.proofs.LedgerLemmas.{cases_Option}
 use Rattle.ledger_model.proofs.Loans.OfNumberLemmas.{of_number-Some, orphan_of_number-Some}
 use Rattle.machine_model.specs.Messaging.MessageCounts.{HasIf, HasNone, HasOne, count_at, count_in}
 use Rattle.machine_model.specs.Messaging.Messages.{is_lend, is_lend_of, is_of_number, is_sent_by, loan_kind}
 use Rattle.machine_model.specs.Runs.Matched.{Matched, IsLendMatched, is_sent_as, is_waiting_for, waits_for}
-use Rattle.machine_model.specs.State.Machine.{Machine, Server, Thread, ThreadState, Ready, Receiving, Waiting, Joining, Idle}
+use Rattle.machine_model.specs.State.Machine.{Machine, Server, Thread}
 use Rattle.machine_model.specs.State.Servers.{messages_of}
-use Rattle.machine_model.specs.State.Threads.{thread_id}
 use Rattle.machine_model.proofs.Matching.CountLemmas.{first_in, none_counted, none_pass}
 use Rattle.machine_model.proofs.Matching.OneMessageLemmas.{HasServer, one_server}
-
--- a state in which a thread waits, for a message, an answer or the end of a thread
-abbrev pub is_waiting : ThreadState → Bool
-is_waiting Ready = false
-is_waiting (Receiving serial) = true
-is_waiting (Waiting number) = true
-is_waiting (Joining tid) = true
-is_waiting Idle = false
 
 some_kind : (o : Option LoanKind) → is_some o ≡ true → (kind : LoanKind) × (o ≡ Some kind)
 some_kind None e = absurd (false≢true e)
@@ -44,31 +29,6 @@ same_thread-self : (id : ThreadId) → same_thread id id ≡ true
 same_thread-self id = and_from (id.pid.0 == id.pid.0) (id.tid.0 == id.tid.0) (eq-eqb id.pid.0 id.pid.0 refl) (eq-eqb id.tid.0 id.tid.0 refl)
 
 module _ (m : Machine) (h : Matched m) where
-  -- ---- threads
-
-  -- tid 1 is Ready or Idle
-  pub first_state : (pid : Pid) (t : Thread) → m.threads (thread_id pid 1) ≡ Some t → (t.state ≡ Ready) ⊎ (t.state ≡ Idle)
-  first_state pid t e =
-      let handler = h.body.threads.handler pid (h.body.ids.living (thread_id pid 1) t e) in
-      subst (λ (u : Thread). (u.state ≡ Ready) ⊎ (u.state ≡ Idle)) (same_Some handler.0 t (sym handler.1 ∙ e)) handler.2
-
-  -- .. so it never waits, receives or joins: a thread that does is above it
-  pub waiting_is_above : (id : ThreadId) (t : Thread) → m.threads id ≡ Some t → is_waiting t.state ≡ true → 2 ≤ id.tid.0
-  waiting_is_above id t e w = go (id.tid.0 == 1) refl
-    where
-      go : (b : Bool) → (id.tid.0 == 1) ≡ b → 2 ≤ id.tid.0
-      go true q =
-          let first : id ≡ thread_id id.pid 1 = same_ids id (thread_id id.pid 1) refl (eqb-true id.tid.0 1 q) in
-          elim (first_state id.pid t (ap m.threads (sym first) ∙ e)) [
-            | inl ready ↦ absurd (false≢true (sym (ap is_waiting ready) ∙ w))
-            | inr idle ↦ absurd (false≢true (sym (ap is_waiting idle) ∙ w))
-          ]
-      go false q =
-          let parts : (is_pid m.processes id.pid.0 ≡ true) × (is_tid id.tid.0 ≡ true) =
-          and_parts (is_pid m.processes id.pid.0) (is_tid id.tid.0) (h.body.ids.known id t e) in
-          let low : is_tid id.tid.0 ≡ true = parts.1 in
-          grind (arith, nat_tests)
-
   -- ---- messages
 
   -- each sender is a thread that is Waiting for its message
@@ -125,13 +85,6 @@ module _ (m : Machine) (h : Matched m) where
           apart a low true q = let same : a ≡ number.0 = eqb-true a number.0 q in absurd (omega arith)
           apart a low false q = refl
 
-  -- no server has the next serial or a later one
-  pub serial_is_new : (n : ℕ) → m.next_serial ≤ n → m.servers n ≡ None
-  serial_is_new n high = elim (cases_Option (m.servers n)) [
-    | inl none ↦ none
-    | inr there ↦ let low : n < m.next_serial = h.rest.above.serials n there.0 there.1 in absurd (omega arith)
-  ]
-
   -- ---- loans
 
   -- the lend that has a number
@@ -170,17 +123,7 @@ module _ (m : Machine) (h : Matched m) where
             low = omega (arith, number_same, low);
           }
 
-  -- a loan's number is below the next one
-  pub loan_below : (p : Place) (loan : PageLoan) → loan_at m.ledger p ≡ Some loan → loan.number.0 < m.next_number
-  unfolding loans
-  loan_below p loan e = (lent_by loan.number (h.body.loans.loans_sent p loan e)).low
-
-  pub orphan_below : (p : Place) (orphan : Orphan) → m.ledger.orphan p ≡ Some orphan → orphan.number.0 < m.next_number
-  unfolding loans
-  orphan_below p orphan e =
-      (lent_by orphan.number (h.body.loans.orphans_sent p (loan_of_orphan orphan) (ap (option_map loan_of_orphan) e))).low
-
-  -- .. so a number from the next one on is fresh
+  -- a number from the next one on is fresh
   pub number_is_fresh : (number : Number) → m.next_number ≤ number.0 → IsFresh (loans m.ledger) number
   number_is_fresh number high = record {
     homes = λ p. elim (cases_Option (of_number number ((loans m.ledger).home p))) [

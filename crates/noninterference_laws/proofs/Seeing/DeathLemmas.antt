@@ -109,9 +109,6 @@ module _ (pid : Pid) (m : Machine) where
     went p apart None there s hidden = absurd (false≢true (sym hidden ∙ s))
     went p apart (Some loan) there s hidden = go (ended loan.number) (unqueued loan.number) refl refl s
       where
-        but : Bool → Option PageLoan → Option PageLoan
-        but b o = if b then None else o
-
         go : (a b : Bool) → ended loan.number ≡ a → unqueued loan.number ≡ b
             → shows_home group p (loan_but unqueued (if a then None else Some loan)) ≡ true → ended loan.number ≡ true
         go true b q r t = q

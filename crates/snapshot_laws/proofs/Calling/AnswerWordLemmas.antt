@@ -1,6 +1,6 @@
 -- Replies are eight words, and answered threads have words.
-use Rattle.std.proofs.Common.{◌≡◌, ℕ, ◌+◌, ◌*◌, ◌<◌, ◌≤◌, Bool, true, false, List, [], ◌∷◌, length, suc, Option, Some, None, refl, ap, arith}
-use Rattle.std.specs.Prelude.{◌==◌, if◌then◌else◌, replicate, unwrap_or}
+use Rattle.std.proofs.Common.{◌≡◌, ℕ, ◌+◌, ◌<◌, ◌≤◌, Bool, List, [], ◌∷◌, length, suc, Option, Some, None, refl, ap, arith}
+use Rattle.std.specs.Prelude.{◌==◌, replicate, unwrap_or}
 use Rattle.std.specs.List.{AllByRecursion, position}
 use Rattle.std.specs.Option.{option_map, option_or}
 use Rattle.std.proofs.lemmas.List.Elements.{All-cons}
@@ -15,15 +15,15 @@ use Rattle.xk_base.specs.declared.messages.MsgKind.TheVariants.{LendMut, Lend, M
 use Rattle.syscall_codec.specs.CallNumbers.{reply_error, reply_message, reply_ok}
 use Rattle.xk_base.specs.Calls.Errors.{code_of}
 use Rattle.xk_base.specs.Calls.Kinds.{kind_number}
-use Rattle.xk_base.specs.Calls.Registers.{with_arguments, with_reg}
+use Rattle.xk_base.specs.Calls.Registers.{with_reg}
 use Rattle.syscall_codec.specs.ReplyWords.{eight_words, message_words, plain_words, refused_words}
 use Rattle.xk_base.specs.Tables.Circle.{same_thread}
-use Rattle.xk_base.specs.Tables.Connections.{cid_for, cid_to}
+use Rattle.xk_base.specs.Tables.Connections.{cid_for}
 use Rattle.machine_model.specs.Ending.Closing.{refused_server}
 use Rattle.machine_model.specs.State.Changes.{Change, settled}
 use Rattle.machine_model.specs.State.Machine.{Machine, Thread}
 use Rattle.machine_model.specs.State.Threads.{Answers, answer_to, both_answers, fresh_registers, give_answers, no_answers, with_answer}
-use Rattle.snapshot_laws.specs.Words.{AreRegisters, AreWords, IsMachineOfWords, IsMessageOfWords, IsThreadOfWords, greatest}
+use Rattle.snapshot_laws.specs.Words.{AreRegisters, IsMachineOfWords, IsMessageOfWords, IsThreadOfWords, greatest}
 use Rattle.snapshot_laws.proofs.Changing.EffectWordLemmas.{threads_are}
 use Rattle.snapshot_laws.proofs.Changing.HoldingLemmas.{Holds, if_holds, map_holds, none_holds, some_holds}
 use Rattle.snapshot_laws.proofs.Words.RegisterLemmas.{AreEightWords, eight_are, with_arguments_are, with_reg_are, zeros_are}

@@ -1,9 +1,9 @@
 -- What the verdict on each call names are words: effects and answers.
-use Rattle.std.proofs.Common.{◌≡◌, ℕ, ◌+◌, ◌-◌, ◌*◌, ◌/◌, ◌<◌, ◌≤◌, Bool, true, false, List, [], ◌∷◌, length, suc, Option, Some, None, refl, sym, ap, subst, arith}
+use Rattle.std.proofs.Common.{◌≡◌, ℕ, ◌+◌, ◌*◌, ◌/◌, ◌<◌, ◌≤◌, Bool, true, false, List, [], ◌∷◌, length, Option, Some, None, refl, sym, subst, arith}
 use Rattle.std.specs.Prelude.{◌==◌, ◌&&◌, ◌++◌, All, if◌then◌else◌, drop, find, is_none, nat_le, slice_index, unwrap_or}
 use Rattle.std.specs.Bool.{⊤}
 use Rattle.std.specs.List.{AllByRecursion}
-use Rattle.std.specs.Option.{option_and_then, option_map, option_map_or}
+use Rattle.std.specs.Option.{option_and_then, option_map_or}
 use Rattle.std.proofs.lemmas.List.Elements.{All-cons, All-drop, All-from_recursion, All-head, All-nil}
 use Rattle.xk_base.proofs.CountingLemmas.{least_below-bound}
 use Rattle.xk_base.specs.declared.errors.XousError.{XousError}
@@ -20,12 +20,12 @@ use Rattle.xk_base.specs.declared.windows.Window.{Window}
 use Rattle.xk_base.specs.declared.windows.Window.TheVariants.{Image, Heap, Message as MessageWindow, Map, Stack}
 use Rattle.syscall_codec.specs.CallNumbers.{reply_connection_id, reply_memory_range, reply_memory_returned, reply_new_server, reply_scalar1}
 use Rattle.syscall_codec.specs.CallNumbers.{reply_scalar2, reply_thread_id}
-use Rattle.syscall_codec.specs.CallWords.{call_number, forward_cid, heap_bytes, interrupt_argument, interrupt_handler, map_phys, map_size}
-use Rattle.syscall_codec.specs.CallWords.{map_virt, return_offset, return_valid, return_value1, return_value2, send_cid, send_id}
-use Rattle.syscall_codec.specs.CallWords.{send_length, send_offset, send_valid, send_words, sid_words, thread_arguments, thread_entry}
+use Rattle.syscall_codec.specs.CallWords.{call_number, forward_cid, heap_bytes, map_size}
+use Rattle.syscall_codec.specs.CallWords.{map_virt, return_offset, return_valid, return_value1, return_value2, send_cid}
+use Rattle.syscall_codec.specs.CallWords.{send_length, send_offset, send_valid, send_words, sid_words, thread_arguments}
 use Rattle.syscall_codec.specs.CallWords.{thread_sp}
 use Rattle.xk_base.specs.Calls.Kinds.{is_answered}
-use Rattle.syscall_codec.specs.ReplyWords.{connection_words, message_words, new_server_words, plain_words, range_words, returned_words}
+use Rattle.syscall_codec.specs.ReplyWords.{connection_words, message_words, plain_words, returned_words}
 use Rattle.syscall_codec.specs.ReplyWords.{scalar1_words, scalar2_words, thread_words}
 use Rattle.xk_base.specs.Numbers.Windows.{first_page}
 use Rattle.xk_base.specs.Tables.Connections.{cid_for}
@@ -33,9 +33,9 @@ use Rattle.xk_base.specs.Tables.Counting.{least_below}
 use Rattle.xk_base.specs.Tables.Sids.{serial_of}
 use Rattle.ledger_model.specs.LeastRun.{is_free_run, least_run, window_pages, window_place}
 use Rattle.ledger_model.specs.Ledger.{Ledger}
-use Rattle.machine_model.specs.Calling.Calls.{any_refusals, call}
+use Rattle.machine_model.specs.Calling.Calls.{call}
 use Rattle.machine_model.specs.Calling.MemoryCalls.{heap_of, heap_start, map_address}
-use Rattle.machine_model.specs.Calling.ServerCalls.{named_server, named_sid, new_serial, new_server}
+use Rattle.machine_model.specs.Calling.ServerCalls.{named_server, named_sid, new_serial}
 use Rattle.machine_model.specs.Calling.ThreadCalls.{free_tid}
 use Rattle.machine_model.specs.Ending.Closing.{is_sender_at, refused_server}
 use Rattle.machine_model.specs.Messaging.ForwardCalls.{is_passable_of, next_arrival, passable, passed_number, passed_to, with_first}
@@ -50,17 +50,17 @@ use Rattle.machine_model.specs.State.Changes.{Outcome, Refused, Retried, Served,
 use Rattle.machine_model.specs.State.Connections.{own_connections}
 use Rattle.machine_model.specs.State.Machine.{Machine, Receiving, Server}
 use Rattle.machine_model.specs.State.Servers.{is_server_of, server_at}
-use Rattle.machine_model.specs.State.Threads.{Answers, answer_to, both_answers, no_answers, thread_id, thread_return}
-use Rattle.call_effects.specs.Effects.{Effect, Ends, Pages, Serves, Waits, arriving}
-use Rattle.call_effects.specs.Verdicts.{Does, Plan, RefusedIf, Refuses, RetriedIf, Row, Verdict, answers_caller, answers_nobody, meant}
+use Rattle.machine_model.specs.State.Threads.{answer_to, both_answers, thread_id, thread_return}
+use Rattle.call_effects.specs.Effects.{Effect, Ends, Pages, Waits, arriving}
+use Rattle.call_effects.specs.Verdicts.{Does, RefusedIf, Refuses, RetriedIf, Row, Verdict, answers_caller, answers_nobody, meant}
 use Rattle.call_effects.specs.Deciding.{decide, row_at, rows}
 use Rattle.call_effects.specs.Rows.InterruptRows.{claim_row, free_row}
 use Rattle.call_effects.specs.Rows.MemoryRows.{decrease_row, increase_row, map_row, unmap_row, update_row}
-use Rattle.call_effects.specs.Rows.MessageRows.{arrival_answers, forward_row, passed_if, receive_row, return_memory_row, return_scalar1_row, return_scalar2_row, returned_row, send_row, sent_row, sent_to_row, taken_or, try_receive_row, try_send_row}
+use Rattle.call_effects.specs.Rows.MessageRows.{arrival_answers, forward_row, passed_if, receive_row, return_memory_row, return_scalar1_row, return_scalar2_row, returned_row, send_row, sent_row, taken_or, try_receive_row, try_send_row}
 use Rattle.call_effects.specs.Rows.ServerRows.{connect_row, create_server_row, destroy_row, try_connect_row}
-use Rattle.call_effects.specs.Rows.ThreadRows.{create_row, death_plan, join_row, process_id_row, terminate_row, thread_id_row, yield_row}
+use Rattle.call_effects.specs.Rows.ThreadRows.{create_row, join_row, process_id_row, terminate_row, thread_id_row, yield_row}
 use Rattle.call_effects.proofs.MeantLemmas.{calls_meant}
-use Rattle.snapshot_laws.specs.Words.{AreFourWords, AreWords, IsMachineOfWords, IsMessageOfWords, IsServerOfWords, greatest}
+use Rattle.snapshot_laws.specs.Words.{AreFourWords, AreWords, IsMachineOfWords, IsMessageOfWords, greatest}
 use Rattle.snapshot_laws.proofs.Calling.AnswerWordLemmas.{AreAnswersOfWords, answer_are, both_are, cid_fits, fresh_are, message_are}
 use Rattle.snapshot_laws.proofs.Calling.AnswerWordLemmas.{nobody_are, plain_are, server_refused_are}
 use Rattle.snapshot_laws.proofs.Changing.EffectWordLemmas.{IsEffectOfWords, IsMessageStepOfWords, run_keeps}

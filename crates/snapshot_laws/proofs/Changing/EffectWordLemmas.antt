@@ -1,5 +1,5 @@
 -- Each effect of a call keeps the numbers of the machine words, where those that it names are.
-use Rattle.std.proofs.Common.{◌≡◌, ℕ, Bool, true, false, List, [], ◌∷◌, ◌++◌, Option, Some, None, refl}
+use Rattle.std.proofs.Common.{ℕ, Bool, true, false, List, [], ◌∷◌, ◌++◌, Option, Some, None}
 use Rattle.std.specs.Prelude.{◌==◌, ◌≤◌, All, nat_eq, not, filter, map, drop, if◌then◌else◌}
 use Rattle.std.specs.List.{AllByRecursion}
 use Rattle.std.specs.Option.{option_map}
@@ -12,16 +12,12 @@ use Rattle.xk_base.specs.declared.messages.Message.{Message}
 use Rattle.xk_base.specs.Calls.Kinds.{is_answered}
 use Rattle.xk_base.specs.Tables.Circle.{same_thread}
 use Rattle.xk_base.specs.Tables.Counting.{put_at}
-use Rattle.ledger_model.specs.Steps.{forget}
-use Rattle.ledger_model.specs.WholePages.{HasWholePages}
 use Rattle.ledger_model.proofs.Pages.WholePageLemmas.{forget_whole}
 use Rattle.machine_model.specs.Ending.Closing.{closed, is_message_at, is_held_from, is_queued_from, senderless_from, senders_held_gone, senders_queued_gone, with_senderless_from, without_queued_from}
 use Rattle.machine_model.specs.Ending.Ends.{forgotten}
 use Rattle.machine_model.specs.Messaging.Messages.{is_of_number, is_sent_from}
-use Rattle.machine_model.specs.Messaging.SendCalls.{sender_left}
-use Rattle.machine_model.specs.State.Machine.{Claim, Machine, Server, Thread, ThreadState, Waiting}
+use Rattle.machine_model.specs.State.Machine.{Machine, Server, Thread, ThreadState, Waiting}
 use Rattle.machine_model.specs.State.Order.{turn}
-use Rattle.machine_model.specs.State.Servers.{messages_of}
 use Rattle.machine_model.specs.State.Threads.{with_state}
 use Rattle.machine_model.specs.Stepping.Interrupts.{disarmed_if, is_claim_of}
 use Rattle.call_effects.specs.Effects.{Effect, Pages, HasHeap, Starts, Waits, Awaits, EndsTurn, Founds, Connects, TakesNumber, Serves, ClosesServers, Unqueues, Orphans, Forgets, Claims, Frees, MessageStep, Queued, Received, Taken, Returned, apply, at_server, run}

@@ -4,7 +4,7 @@ use Rattle.std.specs.Prelude.{◌==◌, ◌&&◌, int_div, int_rem, is_some, not
 use Rattle.std.specs.Bool.{⊤}
 use Rattle.std.proofs.lemmas.Option.{same_Some}
 use Rattle.xk_base.specs.Numbers.Fields.{FitsBits}
-use Rattle.std.specs.Int.{w32, cast_signed, cast_unsigned}
+use Rattle.std.specs.Int.{w32, cast_unsigned}
 use Rattle.std.specs.Option.{MatchOption}
 use Rattle.xk_base.specs.declared.pages.Access.TheVariants.{Fetch, Load, Store}
 use Rattle.xk_base.specs.declared.pages.Width.{Width}
@@ -18,7 +18,7 @@ use Rattle.rv32_words.specs.Table.{IsInRange, Spells}
 use Rattle.rv32_words.proofs.FoundLemmas.{found_or_none}
 use Rattle.machine_model.specs.Hart.Atomics.{Atomic, LoadReserved, StoreConditional, Amo, Operation, Swap, Add as AmoAdd, Xor as AmoXor, And as AmoAnd, Or as AmoOr, Min, Max, Minu, Maxu, atomic_at, execute, execute_at, is_reserved, leaving, operates, perform, reserves, result_of, stores_conditionally, unless_ended}
 use Rattle.machine_model.specs.Hart.Instructions.{Executed, Next, Stores, StoresToConsole, StoresToTimer, CallsKernel, Traps, x, as_word, sum_of, signed, signed_below, following, address_of, difference_of, flag_of, jumps, branches, loads, puts, stores, effect, effect_if_any, execute_base}
-use Rattle.machine_model.specs.Hart.Instructions.{left_shift_of, quotient, remainder, right_shift_of, sign_extended_byte, sign_extended_half, signed_quotient, signed_remainder, signed_right_shift_of, target_misaligned, upper_half, writes}
+use Rattle.machine_model.specs.Hart.Instructions.{left_shift_of, quotient, remainder, right_shift_of, sign_extended_byte, sign_extended_half, signed_quotient, signed_remainder, signed_right_shift_of, target_misaligned, writes}
 use Rattle.machine_model.specs.Hart.Instructions.{load_misaligned, load_page_fault, store_misaligned, store_page_fault, fetch_page_fault}
 use Rattle.snapshot_laws.specs.Words.{AreRegisters, greatest}
 use Rattle.snapshot_laws.proofs.Words.RegisterLemmas.{with_reg_are, word_at}

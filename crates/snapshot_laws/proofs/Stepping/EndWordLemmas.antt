@@ -1,5 +1,5 @@
 -- Deaths, ends and interrupts keep the numbers of the machine words.
-use Rattle.std.proofs.Common.{◌≡◌, ℕ, ◌+◌, ◌<◌, ◌≤◌, Bool, true, false, List, [], ◌∷◌, Option, Some, None, refl, arith}
+use Rattle.std.proofs.Common.{ℕ, ◌<◌, ◌≤◌, Bool, true, false, [], ◌∷◌, Option, Some, None, refl, arith}
 use Rattle.std.specs.Prelude.{◌&&◌, nat_eq, if◌then◌else◌}
 use Rattle.xk_base.proofs.CountingLemmas.{least_below-bound}
 use Rattle.xk_base.specs.declared.ids.Pid.{Pid}
@@ -9,13 +9,13 @@ use Rattle.syscall_codec.specs.CallNumbers.{reply_scalar1}
 use Rattle.syscall_codec.specs.ReplyWords.{scalar1_words}
 use Rattle.xk_base.specs.Tables.Circle.{same_thread}
 use Rattle.xk_base.specs.Tables.Counting.{least_below, put_at}
-use Rattle.machine_model.specs.Ending.Closing.{closed, is_sender_at, senders_held_gone, senders_queued_gone, servers_closed}
+use Rattle.machine_model.specs.Ending.Closing.{closed, is_sender_at, servers_closed}
 use Rattle.machine_model.specs.Ending.Ends.{death, end_with_last_thread, handler_ended, has_threads, joiners_answered, thread_ended, waits_for_end}
 use Rattle.machine_model.specs.State.Changes.{Change, Told, settled}
-use Rattle.machine_model.specs.State.Machine.{Claim, Idle, Machine, Thread}
+use Rattle.machine_model.specs.State.Machine.{Claim, Idle, Machine}
 use Rattle.machine_model.specs.State.Servers.{is_server_of}
-use Rattle.machine_model.specs.State.Threads.{both_answers, handler_return, handler_stack, handler_thread, put_thread, thread_id, with_state}
-use Rattle.machine_model.specs.Stepping.Interrupts.{cursor_after, delivered, delivered_lowest, handler_started, is_claim_of, is_free_for_interrupt, lowest_pending, pended, with_handler_next}
+use Rattle.machine_model.specs.State.Threads.{handler_return, handler_stack, handler_thread, put_thread, thread_id, with_state}
+use Rattle.machine_model.specs.Stepping.Interrupts.{cursor_after, delivered, delivered_lowest, handler_started, is_claim_of, is_free_for_interrupt, lowest_pending, pended}
 use Rattle.machine_model.specs.Stepping.Timer.{is_due, raised_by_timer, timed, timed_if}
 use Rattle.call_effects.specs.Effects.{ClosesServers, Forgets, Orphans, Unqueues, apply}
 use Rattle.snapshot_laws.specs.Words.{IsClaimOfWords, IsMachineOfWords, IsThreadOfWords, greatest}

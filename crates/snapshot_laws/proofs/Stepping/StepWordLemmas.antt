@@ -1,7 +1,7 @@
 -- Each step and each event keeps the numbers of the machine words.
-use Rattle.std.proofs.Common.{◌≡◌, ℕ, zero, suc, ◌+◌, ◌<◌, ◌≤◌, Bool, true, false, List, [], ◌∷◌, Option, Some, None, refl, sym, subst, arith}
-use Rattle.std.specs.Prelude.{◌%◌, ◌==◌, ◌&&◌, All, nat_le, nat_lt, if◌then◌else◌, slice_index}
-use Rattle.std.specs.Option.{option_and_then, option_map, option_map_or}
+use Rattle.std.proofs.Common.{◌≡◌, ℕ, zero, suc, ◌+◌, ◌<◌, ◌≤◌, Bool, true, false, List, [], ◌∷◌, Option, Some, None, refl, arith}
+use Rattle.std.specs.Prelude.{◌%◌, ◌==◌, All, nat_le, nat_lt, if◌then◌else◌, slice_index, unwrap_or}
+use Rattle.std.specs.Option.{option_and_then, option_map_or}
 use Rattle.std.proofs.lemmas.Bool.{and_parts, eqb-true, leb-true, ltb-true}
 use Rattle.std.proofs.lemmas.List.Elements.{All-head, All-tail}
 use Rattle.xk_base.specs.declared.ids.Pid.{Pid}
@@ -11,31 +11,30 @@ use Rattle.xk_base.specs.declared.pages.Access.TheVariants.{Load, Store}
 use Rattle.xk_base.specs.declared.pages.Width.{Width}
 use Rattle.xk_base.specs.declared.pages.Width.TheVariants.{Byte, Half, Word}
 use Rattle.xk_base.specs.declared.records.What.TheVariants.{End}
-use Rattle.xk_base.specs.Calls.Registers.{arguments_of, reg_at, with_arguments}
+use Rattle.xk_base.specs.Calls.Registers.{arguments_of, reg_at}
 use Rattle.syscall_codec.specs.ReplyWords.{refused_words}
 use Rattle.xk_base.specs.Tables.Circle.{is_pid, is_thread_id, is_tid, same_thread}
-use Rattle.xk_base.specs.UserMemory.{Memory, Timer, compare_stored, low_bytes, size_of}
+use Rattle.xk_base.specs.UserMemory.{compare_stored, low_bytes, size_of}
 use Rattle.ledger_model.specs.Ledger.{Bytes, Console, Contents, PageName, byte_of, contents_of}
 use Rattle.machine_model.specs.Calling.Calls.{call}
 use Rattle.machine_model.specs.Ending.Ends.{death, handler_ended, thread_ended}
 use Rattle.machine_model.specs.Hart.Instructions.{Executed, Next, Stores, StoresToConsole, StoresToTimer, CallsKernel, Traps}
 use Rattle.machine_model.specs.Runs.Matched.{Matched}
-use Rattle.machine_model.specs.Runs.Moments.{Cause, ByStep, ByPick, ByIrq, ByKill, ByTurn, caused}
-use Rattle.machine_model.specs.State.Changes.{Outcome, Refused, Retried, Served, Told, call_settled, settled, with_refusal}
-use Rattle.machine_model.specs.State.Machine.{Claim, Machine, Reservation, Thread}
-use Rattle.machine_model.specs.State.Order.{actor, next_ready, ready_at, turn}
+use Rattle.machine_model.specs.Runs.Moments.{Cause, caused}
+use Rattle.machine_model.specs.State.Changes.{Outcome, Refused, Retried, Served, call_settled, settled, with_refusal}
+use Rattle.machine_model.specs.State.Machine.{Machine, Reservation, Thread}
+use Rattle.machine_model.specs.State.Order.{next_ready, ready_at}
 use Rattle.machine_model.specs.State.Threads.{change_thread, passed, with_registers}
-use Rattle.machine_model.specs.State.Views.{contents_seen, memory_of, page_reached, stored, timer_of, timer_set, write_to}
-use Rattle.machine_model.specs.Stepping.Events.{killed, killed_if, picked, raised, raised_if}
+use Rattle.machine_model.specs.State.Views.{memory_of, page_reached, stored, timer_set, write_to}
 use Rattle.machine_model.specs.Stepping.Interrupts.{is_claim_of}
 use Rattle.machine_model.specs.Stepping.Reservations.{reservation_of, reserved_by, unreserved}
-use Rattle.machine_model.specs.Stepping.Step.{Recorded, acted, after, counted, ends_handler, ends_thread, executed, performed, reservation_left, step}
+use Rattle.machine_model.specs.Stepping.Step.{Recorded, acted, after, counted, ends_handler, ends_thread, executed, performed, reservation_left}
 use Rattle.machine_model.proofs.Runs.KeptLemmas.{matched_at}
-use Rattle.machine_model.proofs.StepLemmas.{no_step}
-use Rattle.machine_laws.proofs.Executing.InstructionEffectLemmas.{IsSound, execute_at_sound, is_store_whole}
-use Rattle.machine_laws.proofs.Threading.ThreadAnswerLemmas.{IsReadyThread, ready_thread}
-use Rattle.machine_laws.proofs.Threading.ThreadStepLemmas.{actor_ready, step_of_thread, turned_to}
+use Rattle.machine_laws.proofs.Executing.InstructionEffectLemmas.{execute_at_sound, is_store_whole}
+use Rattle.machine_laws.proofs.Threading.ThreadStepLemmas.{turned_to}
 use Rattle.call_effects.specs.Effects.{EndsTurn}
+use Rattle.confidentiality_laws.specs.TwoRuns.{records_by}
+use Rattle.confidentiality_laws.proofs.CauseCaseLemmas.{CauseCase, IsDead, Kills, NoneActs, Picks, Raises, RestCase, Rests, Steps, Turns, Unclaimed, case_of}
 use Rattle.snapshot_laws.specs.KeepingWords.{AllKeepWords}
 use Rattle.snapshot_laws.specs.Words.{IsMachineOfWords, IsThreadOfWords, greatest}
 use Rattle.snapshot_laws.proofs.Calling.AnswerWordLemmas.{refused_are, settled_keeps}
@@ -207,18 +206,7 @@ module _ (m : Machine) (t : Thread) (there : m.threads m.cursor ≡ Some t) (k :
         reserved = left_fits;
       }
 
-step_are : (m : Machine) → Matched m → m.steps < greatest → IsMachineOfWords m → IsMachineOfWords (step m).machine
-step_are m k few h = go (actor m) refl
-  where
-    go : (o : Option ThreadId) → actor m ≡ o → IsMachineOfWords (step m).machine
-    go None e = subst (λ (s : Recorded). IsMachineOfWords s.machine) (sym (no_step m e)) h
-    go (Some who) e =
-        let at : IsReadyThread m who = ready_thread m who (actor_ready m who e) in
-        subst IsMachineOfWords (sym (step_of_thread m who at.thread e at.there))
-        (timed_are (counted (turned_to who m) (Some at.thread) (acted (turned_to who m) at.thread))
-        (counted_are (turned_to who m) at.thread at.there (matched_at who m k) (cursor_are m h who) few))
-
--- ---- events
+-- ---- whatever it is
 
 unreserved_are : (m : Machine) → IsMachineOfWords m → IsMachineOfWords (unreserved m)
 unreserved_are m h = record {
@@ -230,18 +218,21 @@ unreserved_are m h = record {
   reserved = none_holds (λ (r : Reservation). r.address ≤ greatest);
 }
 
-raised_are : (k : ℕ) (o : Option Claim) (m : Machine) → IsMachineOfWords m → IsMachineOfWords (raised_if k o m).machine
-raised_are k None m h = h
-raised_are k (Some claim) m h = taken_place _ (pended_is k claim m h)
-
-killed_are : (b : Bool) (pid : Pid) (m : Machine) → IsMachineOfWords m → IsMachineOfWords (killed_if b pid m).machine
-killed_are false pid m h = h
-killed_are true pid m h = taken_place (death pid m) (death_is pid m h)
-
 pub causes_keep : AllKeepWords
-unfolding picked raised killed
-causes_keep ByStep m k few h = step_are m k few h
-causes_keep (ByPick who) m k few h = cursor_are m h (if ready_at m who then who else m.cursor)
-causes_keep (ByIrq n) m k few h = raised_are n (m.claims n) (unreserved m) (unreserved_are m h)
-causes_keep (ByKill pid) m k few h = killed_are (m.process pid.0).alive pid (unreserved m) (unreserved_are m h)
-causes_keep ByTurn m k few h = apply_keeps EndsTurn m tt h
+causes_keep cause m k few h = by cause (record { machine = caused cause m; records = records_by cause m }) (case_of cause m)
+  where
+    rests : (cause : Cause) (cursor : ThreadId) (reserved : Option Reservation) → RestCase m cause cursor reserved
+        → IsMachineOfWords (record m { cursor = cursor; reserved = reserved })
+    rests _ _ _ (NoneActs e) = h
+    rests _ _ _ (Picks who) = cursor_are m h (if ready_at m who then who else m.cursor)
+    rests _ _ _ (Unclaimed n e) = unreserved_are m h
+    rests _ _ _ (IsDead pid e) = unreserved_are m h
+    rests _ _ _ Turns = cursor_are m h (unwrap_or (next_ready m m.cursor) m.cursor)
+
+    by : (cause : Cause) (next : Recorded) → CauseCase m cause next → IsMachineOfWords next.machine
+    by _ _ (Rests cause cursor reserved rest) = rests cause cursor reserved rest
+    by _ _ (Steps who t acts there case) =
+        timed_are (counted (turned_to who m) (Some t) (acted (turned_to who m) t))
+        (counted_are (turned_to who m) t there (matched_at who m k) (cursor_are m h who) few)
+    by _ _ (Raises n claim e) = taken_place _ (pended_is n claim (unreserved m) (unreserved_are m h))
+    by _ _ (Kills pid e) = taken_place (death pid (unreserved m)) (death_is pid (unreserved m) (unreserved_are m h))

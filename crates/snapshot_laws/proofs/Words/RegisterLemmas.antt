@@ -1,18 +1,15 @@
 -- Lists of words, and the registers of a thread: 32 words, of which the first is 0.
-use Rattle.std.proofs.Common.{◌≡◌, ℕ, zero, suc, ◌+◌, ◌-◌, ◌<◌, ◌≤◌, Bool, true, false, List, [], ◌∷◌, ◌++◌, length, take, drop, replicate, refl, sym, ap, ◌∙◌, subst, arith, length-append, length-drop}
+use Rattle.std.proofs.Common.{◌≡◌, ℕ, zero, suc, ◌+◌, ◌-◌, ◌≤◌, Bool, true, false, List, [], ◌∷◌, ◌++◌, length, take, drop, replicate, refl, sym, ap, ◌∙◌, arith, length-append, length-drop}
 use Rattle.std.specs.Prelude.{◌==◌, min, slice_index, slice_set, if◌then◌else◌}
 use Rattle.std.specs.List.{AllByRecursion}
 use Rattle.std.proofs.lemmas.Bool.{false≢true}
 use Rattle.std.proofs.lemmas.List.{length-set, length-take, length-replicate}
-use Rattle.std.proofs.lemmas.List.Elements.{All-from_recursion, All-nil, All-head, All-tail, All-append, All-take, All-drop, All-set, All-replicate}
+use Rattle.std.proofs.lemmas.List.Elements.{All-from_recursion, All-head, All-tail, All-append, All-take, All-drop, All-set, All-replicate}
 use Rattle.xk_base.specs.Calls.Registers.{arguments_of, with_arguments, with_reg}
 use Rattle.syscall_codec.specs.ReplyWords.{eight_words}
 use Rattle.snapshot_laws.specs.Words.{AreRegisters, AreWords, greatest}
 
 -- ---- lists of words
-
-pub no_words : AreWords []
-no_words = All-nil (λ x. x ≤ greatest)
 
 -- any of them, and 0 past the end
 pub word_at : (xs : List ℕ) (i : ℕ) → AreWords xs → slice_index xs i ≤ greatest

@@ -1,5 +1,5 @@
 -- Words that are read as signed numbers, and what is made of them: it fits into a word again.
-use Rattle.std.proofs.Common.{◌≡◌, ℕ, zero, suc, ◌+◌, ◌-◌, ◌*◌, ◌/◌, ◌%◌, ◌^◌, ◌<◌, ◌≤◌, Bool, true, false, refl, sym, ◌∙◌, arith, ℤ, pos, negsuc, div-le_self}
+use Rattle.std.proofs.Common.{◌≡◌, ℕ, zero, suc, ◌+◌, ◌-◌, ◌*◌, ◌/◌, ◌%◌, ◌^◌, ◌<◌, ◌≤◌, Bool, true, false, refl, arith, ℤ, pos, negsuc, div-le_self}
 use Rattle.std.specs.Prelude.{◌*ℤ◌, if◌then◌else◌, nat_lt, int_div, int_rem}
 use Rattle.std.specs.Int.{w8, w16, w32, w64, cast_signed, cast_unsigned, int_shr}
 use Rattle.std.specs.Int.RustNames.{unsigned_abs}

@@ -207,7 +207,7 @@ cause_kept cause m = by cause (record { machine = caused cause m; records = reco
   where
     by : (cause : Cause) (next : Recorded) → CauseCase m cause next → (caused cause m).next_number ≡ next.machine.next_number
         → ((caused cause m).next_number ≡ m.next_number) ⊎ Accepts (new_number m) m (moment_of cause m)
-    by _ _ (Rests cause cursor reserved) is = inl is
+    by _ _ (Rests cause cursor reserved rest) is = inl is
     by _ _ (Steps who t acts there case) is =
         let done = acted (turned_to who m) t in
         act_kept m who acts t there done case (is ∙ timed_number (counted (turned_to who m) (Some t) done))

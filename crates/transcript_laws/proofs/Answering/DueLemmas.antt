@@ -247,7 +247,7 @@ pub replies_are_due : RepliesAreDue
 replies_are_due cause m h = by cause (record { machine = caused cause m; records = records_by cause m }) (case_of cause m)
   where
     by : (cause : Cause) (next : Recorded) → CauseCase m cause next → All (λ (rec : Rec). IsReplyDue m cause rec.what) next.records
-    by _ _ (Rests cause cursor reserved) = no_records m cause
+    by _ _ (Rests cause cursor reserved rest) = no_records m cause
     by _ _ (Steps who t acts there case) =
         let done = acted (turned_to who m) t in
         All-map (λ (rec : Rec). IsReplyDue m ByStep rec.what) (record_of (m.steps + 1)) (timed (counted (turned_to who m) (Some t) done)).told

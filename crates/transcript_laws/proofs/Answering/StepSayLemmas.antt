@@ -217,7 +217,7 @@ pub cause_leads : (cause : Cause) (m : Machine) → Matched m → LeadsOn m (rec
 cause_leads cause m h = by cause (record { machine = caused cause m; records = records_by cause m }) (case_of cause m)
   where
     by : (cause : Cause) (next : Recorded) → CauseCase m cause next → LeadsOn m next
-    by _ _ (Rests cause cursor reserved) = nothing_leads m
+    by _ _ (Rests cause cursor reserved rest) = nothing_leads m
     by _ _ (Steps who t acts there case) =
         let done = acted (turned_to who m) t in
         told_leads m (m.steps + 1) (timed (counted (turned_to who m) (Some t) done)) (step_tells m h who acts t there (act_tells m h who acts t done case))

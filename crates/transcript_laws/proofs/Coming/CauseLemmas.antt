@@ -182,7 +182,7 @@ all_come cause m h = by cause (record { machine = caused cause m; records = reco
   where
     by : (cause : Cause) (next : Recorded) → CauseCase m cause next → (caused cause m).ledger ≡ next.machine.ledger
         → PagesCome cause m (caused cause m).ledger
-    by _ _ (Rests cause cursor reserved) is = stays_come cause m (caused cause m).ledger is
+    by _ _ (Rests cause cursor reserved rest) is = stays_come cause m (caused cause m).ledger is
     by _ _ (Steps who t acts there case) is = act_comes m h who acts t there (acted (turned_to who m) t) case (step_like m who t acts there).ledger
     by _ _ (Raises k claim e) is = stays_come (ByIrq k) m (raised k m).machine.ledger (irq_ledger k m)
     by _ _ (Kills pid e) is =

@@ -347,7 +347,7 @@ pub cause_leads : (number : Number) (cause : Cause) (m : Machine) → Matched m 
 cause_leads number cause m h = by cause (record { machine = caused cause m; records = records_by cause m }) (case_of cause m)
   where
     by : (cause : Cause) (next : Recorded) → CauseCase m cause next → LeadsOn number m next
-    by _ _ (Rests cause cursor reserved) = nothing_leads number m (record m { cursor = cursor; reserved = reserved }) refl refl
+    by _ _ (Rests cause cursor reserved rest) = nothing_leads number m (record m { cursor = cursor; reserved = reserved }) refl refl
     by _ _ (Steps who t acts there case) = λ a stands.
         let done = acted (turned_to who m) t in
         told_leads number a (m.steps + 1) (timed (counted (turned_to who m) (Some t) done))

@@ -263,7 +263,7 @@ pub records_in_order : (cause : Cause) (m : Machine) → StandInOrder (records_b
 records_in_order cause m = by cause (record { machine = caused cause m; records = records_by cause m }) (case_of cause m)
   where
     by : (cause : Cause) (next : Recorded) → CauseCase m cause next → StandInOrder next.records
-    by _ _ (Rests cause cursor reserved) = none_in_order
+    by _ _ (Rests cause cursor reserved rest) = none_in_order
     by _ _ (Steps who t acts there case) =
         let told : IsTold (acted_if_there (turned_to who m) (Some t)) = acted_is_told (turned_to who m) (Some t) in
         let done = counted (turned_to who m) (Some t) (acted (turned_to who m) t) in

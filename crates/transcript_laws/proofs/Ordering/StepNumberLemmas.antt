@@ -19,7 +19,7 @@ use Rattle.machine_model.specs.Stepping.Step.{counted, record_of}
 use Rattle.machine_model.specs.Stepping.Timer.{timed}
 use Rattle.transcript_laws.specs.RecordOrder.{StepsNeverFall}
 use Rattle.transcript_laws.proofs.Ordering.PairLemmas.{pairs_append, pairs_none, pairs_to_map}
-use Rattle.confidentiality_laws.proofs.CauseCaseLemmas.{CauseCase, Kills, Raises, Rests, Steps, case_of}
+use Rattle.confidentiality_laws.proofs.CauseCaseLemmas.{CauseCase, Kills, Raises, Rests, Steps, case_of, cause_counts}
 use Rattle.machine_model.specs.Ending.Closing.{closed, senders_held_gone, senders_queued_gone, servers_closed}
 use Rattle.machine_model.specs.Ending.Ends.{forgotten}
 use Rattle.machine_laws.proofs.Threading.ThreadStepLemmas.{turned_to}
@@ -53,37 +53,24 @@ death_steps : (pid : Pid) (m : Machine) → (settled (death pid m)).machine.step
 unfolding settled death servers_closed closed senders_queued_gone senders_held_gone forgotten
 death_steps pid m = refl
 
--- the count of steps doesn't fall, and the records have numbers from the one count up to the other
-record GoesOn (m : Machine) (next : Recorded) : Type 0 where
-  climbs : m.steps ≤ next.machine.steps
-  numbered : AreNumbered m.steps next.machine.steps next.records
-
-cause_goes_on : (cause : Cause) (m : Machine) → GoesOn m (record { machine = caused cause m; records = records_by cause m })
-cause_goes_on cause m = by cause (record { machine = caused cause m; records = records_by cause m }) (case_of cause m)
+-- the records have numbers from the steps before up to those after
+cause_numbered : (cause : Cause) (m : Machine) → AreNumbered m.steps (caused cause m).steps (records_by cause m)
+cause_numbered cause m = by cause (record { machine = caused cause m; records = records_by cause m }) (case_of cause m)
   where
-    by : (cause : Cause) (next : Recorded) → CauseCase m cause next → GoesOn m next
-    by _ _ (Rests cause cursor reserved) = record { climbs = omega arith; numbered = none_numbered m.steps m.steps }
+    by : (cause : Cause) (next : Recorded) → CauseCase m cause next → AreNumbered m.steps next.machine.steps next.records
+    by _ _ (Rests cause cursor reserved rest) = none_numbered m.steps m.steps
     by _ _ (Steps who t acts there case) =
         let done = counted (turned_to who m) (Some t) (acted (turned_to who m) t) in
         let counts : (timed done).machine.steps ≡ m.steps + 1 = ap (λ (x : Machine). x.steps) (timed_raised done).is in
-        record {
-          climbs = omega arith;
-          numbered = all_numbered m.steps (m.steps + 1) (timed done).machine.steps (omega arith) (omega arith) (timed done).told;
-        }
+        all_numbered m.steps (m.steps + 1) (timed done).machine.steps (omega arith) (omega arith) (timed done).told
     by _ _ (Raises k claim e) =
         let change = pended k claim (unreserved m) in
         let same : (settled change).machine.steps ≡ m.steps = ap (λ (x : Machine). x.steps) (pended_raised k claim (unreserved m)).is in
-        record {
-          climbs = omega arith;
-          numbered = all_numbered m.steps m.steps (settled change).machine.steps (omega arith) (omega arith) (settled change).told;
-        }
+        all_numbered m.steps m.steps (settled change).machine.steps (omega arith) (omega arith) (settled change).told
     by _ _ (Kills pid e) =
         let change = death pid (unreserved m) in
         let same : (settled change).machine.steps ≡ m.steps = death_steps pid (unreserved m) in
-        record {
-          climbs = omega arith;
-          numbered = all_numbered m.steps m.steps (settled change).machine.steps (omega arith) (omega arith) (settled change).told;
-        }
+        all_numbered m.steps m.steps (settled change).machine.steps (omega arith) (omega arith) (settled change).told
 
 -- ---- runs
 
@@ -110,9 +97,9 @@ unfolding IsRun records_of
 run_from start [] run = record { from = All-nil (IsFrom start.steps); pairs = pairs_none NotAfter }
 run_from start (moment ∷ moments) run =
     let same : moment.machine.steps ≡ (caused moment.cause start).steps = ap (λ (m : Machine). m.steps) run.0 in
-    let climbs : start.steps ≤ (caused moment.cause start).steps = (cause_goes_on moment.cause start).climbs in
+    let climbs : start.steps ≤ (caused moment.cause start).steps = (cause_counts moment.cause start).0 in
     joined start.steps moment.machine.steps (caused moment.cause start).steps (records_by moment.cause start) (records_of moment.machine moments)
-    (omega arith) (omega arith) (cause_goes_on moment.cause start).numbered (run_from moment.machine moments run.1)
+    (omega arith) (omega arith) (cause_numbered moment.cause start) (run_from moment.machine moments run.1)
 
 pub run_never_falls : (start : Machine) (moments : List Moment) → IsRun start moments → StepsNeverFall start moments
 run_never_falls start moments run = (run_from start moments run).pairs

@@ -77,9 +77,6 @@ module _ (cause : Cause) (m : Machine) (h : Matched m) (w : List ℕ) (served_by
       passes : IsForwardedTo to.0 (with_first first x) cause m
       passes = passed_to_it e x at to apart leads first
 
-      gone : Machine
-      gone = change_server at.serial (without_held x.number) m
-
       now : (b : Bool) → nat_eq n to.0 ≡ b
           → next.servers n ≡ (if b then option_map (at_server (arriving (receiver m to) (with_first first x))) ((change_server at.serial (without_held x.number) m).servers to.0)
           else (change_server at.serial (without_held x.number) m).servers n)

@@ -357,7 +357,7 @@ cause_so : (cause : Cause) (m : Machine) → Matched m → DoesSo cause m (recor
 cause_so cause m h = by cause (record { machine = caused cause m; records = records_by cause m }) (case_of cause m)
   where
     by : (cause : Cause) (next : Recorded) → CauseCase m cause next → DoesSo cause m next
-    by _ _ (Rests cause cursor reserved) = nothing_so cause m (record m { cursor = cursor; reserved = reserved }) refl
+    by _ _ (Rests cause cursor reserved rest) = nothing_so cause m (record m { cursor = cursor; reserved = reserved }) refl
     by _ _ (Steps who t acts there case) =
         let done = acted (turned_to who m) t in
         let does = act_does ByStep refl m h who acts t there done case in

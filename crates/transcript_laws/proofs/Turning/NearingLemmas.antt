@@ -185,7 +185,7 @@ pub processes_stay : (cause : Cause) (m : Machine) → (caused cause m).processe
 processes_stay cause m = by cause (record { machine = caused cause m; records = records_by cause m }) (case_of cause m)
   where
     by : (cause : Cause) (next : Recorded) → CauseCase m cause next → next.machine.processes ≡ m.processes
-    by _ _ (Rests cause cursor reserved) = refl
+    by _ _ (Rests cause cursor reserved rest) = refl
     by _ _ (Steps who t acts is_there case) =
         let done = counted (turned_to who m) (Some t) (acted (turned_to who m) t) in
         ap (λ (x : Machine). x.processes) (timed_raised done).is ∙ (acted_goes_on (turned_to who m) (Some t)).processes

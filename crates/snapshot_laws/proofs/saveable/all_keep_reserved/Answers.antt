@@ -1,4 +1,4 @@
-use Rattle.snapshot_laws.proofs.SizeLemmas.{cause_reserved}
+use Rattle.machine_laws.proofs.Histories.ReservedLemmas.{cause_reserved}
 use Rattle.snapshot_laws.proofs.saveable.all_keep_reserved.Goals as goal
 
 -- src/saveable.rt
