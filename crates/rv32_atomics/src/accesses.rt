@@ -1,13 +1,12 @@
 //! The accesses of atomic instructions, each of one word.
 
-ghost use Rattle.std.specs.Prelude.{◌≡◌, ◌≤◌, ◌%◌};
-ghost use Rattle.xk_base.specs.Outside.{Rose};
+ghost use Rattle.std.specs.Prelude.{◌≡◌, ◌%◌};
 ghost use Rattle.xk_base.specs.Calls.Registers.{with_reg};
 ghost use Rattle.xk_base.specs.declared.pages.Width.TheVariants.{Word};
 ghost use Rattle.rv32_words.specs.Formats.{IsRegister};
 ghost use Rattle.machine_model.specs.Hart.Atomics.{is_reserved, operates, result_of, stores_conditionally};
 ghost use Rattle.machine_model.specs.Hart.Instructions.{following, loads};
-ghost use Rattle.rv32_hart.specs.Running.{DoesExecute, GoesOnAligned, UnlessFailed, IfFailed, view_of};
+ghost use Rattle.rv32_hart.specs.Running.{DoesExecute, UsesMemory, view_of};
 ghost use Rattle.rv32_atomics.specs.Meaning.{operation_of};
 ghost use Rattle.rv32_atomics.specs.Performing.{LeavesRegistersUnlessDone, puts_if_allowed};
 
@@ -32,14 +31,8 @@ pub fn load<U: UserMemory>(mem: &mut U, regs: &mut Regs, pc: u32, rd: u8, addres
         let after = view_of U.UserMemory mem.new in
         DoesExecute (λ mem. loads mem regs.old pc rd address Word (λ word. word)) before after regs.old regs.new result }
     ensures leaves { LeavesRegistersUnlessDone regs.old regs.new result }
-    ensures aligned { GoesOnAligned result }
-    ensures may { U.may mem.new ≡ U.may mem.old }
-    ensures console { U.console mem.new ≡ U.console mem.old }
     ensures rest { (before : U) → U.same_rest before mem.old → U.same_rest before mem.new }
-    ensures fit { UnlessFailed result (U.fit mem.new) }
-    ensures unfit { IfFailed result (¬ U.fit mem.new) }
-    ensures cause { IfFailed result (Rose (U.faults mem.old) (U.faults mem.new)) }
-    ensures never_falls { U.faults mem.old ≤ U.faults mem.new }
+    ensures uses { UsesMemory U.UserMemory mem.old mem.new result }
 {
     if address % 4 != 0 {
         return Ran::Trap {
@@ -79,14 +72,8 @@ fn put<U: UserMemory>(
         DoesExecute (λ mem. puts_if_allowed mem address value (with_reg regs.old rd loaded) (following pc))
         before after regs.old regs.new result }
     ensures leaves { LeavesRegistersUnlessDone regs.old regs.new result }
-    ensures aligned { GoesOnAligned result }
-    ensures may { U.may mem.new ≡ U.may mem.old }
-    ensures console { U.console mem.new ≡ U.console mem.old }
     ensures rest { (before : U) → U.same_rest before mem.old → U.same_rest before mem.new }
-    ensures fit { UnlessFailed result (U.fit mem.new) }
-    ensures unfit { IfFailed result (¬ U.fit mem.new) }
-    ensures cause { IfFailed result (Rose (U.faults mem.old) (U.faults mem.new)) }
-    ensures never_falls { U.faults mem.old ≤ U.faults mem.new }
+    ensures uses { UsesMemory U.UserMemory mem.old mem.new result }
 {
     match mem.store(address, Width::Word, value) {
         Ok(Stored::Done) => {
@@ -126,14 +113,8 @@ pub fn store_conditionally<U: UserMemory>(
         let after = view_of U.UserMemory mem.new in
         DoesExecute (λ mem. stores_conditionally mem regs.old pc rd address reserved value) before after regs.old regs.new result }
     ensures leaves { LeavesRegistersUnlessDone regs.old regs.new result }
-    ensures aligned { GoesOnAligned result }
-    ensures may { U.may mem.new ≡ U.may mem.old }
-    ensures console { U.console mem.new ≡ U.console mem.old }
     ensures rest { (before : U) → U.same_rest before mem.old → U.same_rest before mem.new }
-    ensures fit { UnlessFailed result (U.fit mem.new) }
-    ensures unfit { IfFailed result (¬ U.fit mem.new) }
-    ensures cause { IfFailed result (Rose (U.faults mem.old) (U.faults mem.new)) }
-    ensures never_falls { U.faults mem.old ≤ U.faults mem.new }
+    ensures uses { UsesMemory U.UserMemory mem.old mem.new result }
 {
     if address % 4 != 0 {
         return Ran::Trap {
@@ -182,14 +163,8 @@ pub fn operate<U: UserMemory>(
         DoesExecute (λ mem. operates mem regs.old pc rd address (λ old. result_of (operation_of operation) old operand))
         before after regs.old regs.new result }
     ensures leaves { LeavesRegistersUnlessDone regs.old regs.new result }
-    ensures aligned { GoesOnAligned result }
-    ensures may { U.may mem.new ≡ U.may mem.old }
-    ensures console { U.console mem.new ≡ U.console mem.old }
     ensures rest { (before : U) → U.same_rest before mem.old → U.same_rest before mem.new }
-    ensures fit { UnlessFailed result (U.fit mem.new) }
-    ensures unfit { IfFailed result (¬ U.fit mem.new) }
-    ensures cause { IfFailed result (Rose (U.faults mem.old) (U.faults mem.new)) }
-    ensures never_falls { U.faults mem.old ≤ U.faults mem.new }
+    ensures uses { UsesMemory U.UserMemory mem.old mem.new result }
 {
     if address % 4 != 0 {
         return Ran::Trap {

@@ -1,9 +1,8 @@
 //! Atomic instructions, each by its kind.
 
-ghost use Rattle.std.specs.Prelude.{◌≡◌, ◌≤◌, ◌%◌};
-ghost use Rattle.xk_base.specs.Outside.{Rose};
+ghost use Rattle.std.specs.Prelude.{◌≡◌, ◌%◌};
 ghost use Rattle.machine_model.specs.Hart.Atomics.{atomic_effect};
-ghost use Rattle.rv32_hart.specs.Running.{DoesExecute, GoesOnAligned, UnlessFailed, IfFailed, view_of};
+ghost use Rattle.rv32_hart.specs.Running.{DoesExecute, UsesMemory, view_of};
 ghost use Rattle.rv32_atomics.specs.Meaning.{meaning};
 ghost use Rattle.rv32_atomics.specs.Performing.{LeavesRegistersUnlessDone};
 ghost use Rattle.rv32_atomics.specs.Table.{IsInRange};
@@ -31,14 +30,8 @@ pub fn execute<U: UserMemory>(
         let after = view_of U.UserMemory mem.new in
         DoesExecute (λ mem. atomic_effect mem regs.old pc reserved (meaning atomic)) before after regs.old regs.new result }
     ensures leaves { LeavesRegistersUnlessDone regs.old regs.new result }
-    ensures aligned { GoesOnAligned result }
-    ensures may { U.may mem.new ≡ U.may mem.old }
-    ensures console { U.console mem.new ≡ U.console mem.old }
     ensures rest { (before : U) → U.same_rest before mem.old → U.same_rest before mem.new }
-    ensures fit { UnlessFailed result (U.fit mem.new) }
-    ensures unfit { IfFailed result (¬ U.fit mem.new) }
-    ensures cause { IfFailed result (Rose (U.faults mem.old) (U.faults mem.new)) }
-    ensures never_falls { U.faults mem.old ≤ U.faults mem.new }
+    ensures uses { UsesMemory U.UserMemory mem.old mem.new result }
 {
     let f = fields_of(atomic);
     let address = regs.get(f.rs1);

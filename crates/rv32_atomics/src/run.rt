@@ -1,11 +1,10 @@
 //! Any instruction.
 
-ghost use Rattle.std.specs.Prelude.{◌≡◌, ◌≤◌, ◌%◌};
-ghost use Rattle.xk_base.specs.Outside.{Rose};
+ghost use Rattle.std.specs.Prelude.{◌≡◌, ◌%◌};
 ghost use Rattle.xk_base.specs.UserMemory.{Memory};
 ghost use Rattle.machine_model.specs.Hart.Atomics.{atomic_effect, reserves};
 ghost use Rattle.machine_model.specs.Hart.Instructions.{Executed};
-ghost use Rattle.rv32_hart.specs.Running.{DoesExecute, GoesOnAligned, UnlessFailed, IfFailed, view_of};
+ghost use Rattle.rv32_hart.specs.Running.{DoesExecute, UsesMemory, view_of};
 ghost use Rattle.rv32_atomics.specs.Meaning.{meaning};
 ghost use Rattle.rv32_atomics.specs.Performing.{Core, DoesOrLeaves, LeavesRegistersUnlessDone, LeavesReserved, Performs, PerformsOrLeaves};
 ghost use Rattle.rv32_atomics.specs.Performing.{goes_on, reserved_after};
@@ -42,14 +41,8 @@ pub fn run_any<U: UserMemory>(
         Performs before after old new pc result }
     ensures leaves { LeavesRegistersUnlessDone regs.old regs.new result }
     ensures reserved { LeavesReserved reserved.old reserved.new result }
-    ensures aligned { GoesOnAligned result }
-    ensures may { U.may mem.new ≡ U.may mem.old }
-    ensures console { U.console mem.new ≡ U.console mem.old }
     ensures rest { U.same_rest mem.old mem.new }
-    ensures fit { UnlessFailed result (U.fit mem.new) }
-    ensures unfit { IfFailed result (¬ U.fit mem.new) }
-    ensures cause { IfFailed result (Rose (U.faults mem.old) (U.faults mem.new)) }
-    ensures never_falls { U.faults mem.old ≤ U.faults mem.new }
+    ensures uses { UsesMemory U.UserMemory mem.old mem.new result }
 {
     let word = match mem.fetch(pc) {
         Ok(Some(word)) => word,
@@ -90,14 +83,8 @@ pub fn run_or_leave<U: UserMemory>(
         let old : Core = record { regs = regs.old; reserved = reserved.old } in
         let new : Core = record { regs = regs.new; reserved = reserved.new } in
         PerformsOrLeaves before after old new pc result }
-    ensures aligned { GoesOnAligned result }
-    ensures may { U.may mem.new ≡ U.may mem.old }
-    ensures console { U.console mem.new ≡ U.console mem.old }
     ensures rest { U.same_rest mem.old mem.new }
-    ensures fit { UnlessFailed result (U.fit mem.new) }
-    ensures unfit { IfFailed result (¬ U.fit mem.new) }
-    ensures cause { IfFailed result (Rose (U.faults mem.old) (U.faults mem.new)) }
-    ensures never_falls { U.faults mem.old ≤ U.faults mem.new }
+    ensures uses { UsesMemory U.UserMemory mem.old mem.new result }
 {
     match mem.fetch(pc) {
         Ok(Some(word)) => match decode_atomic(word) {
@@ -129,14 +116,8 @@ fn perform<U: UserMemory>(
         DoesExecute (λ mem. atomic_effect mem regs.old pc reserved.old (meaning atomic)) before after regs.old regs.new result }
     ensures reserved { reserved.new ≡ reserved_after result reserved.old (reserves regs.old reserved.old (meaning atomic)) }
     ensures leaves { LeavesRegistersUnlessDone regs.old regs.new result }
-    ensures aligned { GoesOnAligned result }
-    ensures may { U.may mem.new ≡ U.may mem.old }
-    ensures console { U.console mem.new ≡ U.console mem.old }
     ensures rest { (before : U) → U.same_rest before mem.old → U.same_rest before mem.new }
-    ensures fit { UnlessFailed result (U.fit mem.new) }
-    ensures unfit { IfFailed result (¬ U.fit mem.new) }
-    ensures cause { IfFailed result (Rose (U.faults mem.old) (U.faults mem.new)) }
-    ensures never_falls { U.faults mem.old ≤ U.faults mem.new }
+    ensures uses { UsesMemory U.UserMemory mem.old mem.new result }
 {
     let before = *reserved;
     let left = reserves(kind_of(atomic), regs.get(fields_of(atomic).rs1), before);
@@ -166,14 +147,8 @@ fn perform_or_leave<U: UserMemory>(
         let left = reserves regs.old reserved.old (meaning atomic) in
         DoesOrLeaves (λ done. DoesExecute effect before after regs.old done.regs result
         × (done.reserved ≡ reserved_after result reserved.old left)) old new result }
-    ensures aligned { GoesOnAligned result }
-    ensures may { U.may mem.new ≡ U.may mem.old }
-    ensures console { U.console mem.new ≡ U.console mem.old }
     ensures rest { (before : U) → U.same_rest before mem.old → U.same_rest before mem.new }
-    ensures fit { UnlessFailed result (U.fit mem.new) }
-    ensures unfit { IfFailed result (¬ U.fit mem.new) }
-    ensures cause { IfFailed result (Rose (U.faults mem.old) (U.faults mem.new)) }
-    ensures never_falls { U.faults mem.old ≤ U.faults mem.new }
+    ensures uses { UsesMemory U.UserMemory mem.old mem.new result }
 {
     let regs_before = *regs;
     let reserved_before = *reserved;

@@ -1,10 +1,11 @@
 -- What running the instruction at the pc comes to: what the table of instructions gives for the registers, the pc and the
 -- memory that the process sees.
-use Rattle.std.specs.Prelude.{◌≡◌, ℕ, ◌%◌, List, Bool, if◌then◌else◌, Option, Some, None}
+use Rattle.std.specs.Prelude.{◌≡◌, ℕ, ◌%◌, ◌≤◌, List, Bool, if◌then◌else◌, Option, Some, None}
 use Rattle.std.specs.Option.{option_map}
 use Rattle.xk_base.specs.declared.pages.Access.{Access}
 use Rattle.xk_base.specs.declared.pages.Access.TheVariants.{Fetch}
 use Rattle.xk_base.specs.declared.user_memory.UserMemory.{Ghosts as UserMemory}
+use Rattle.xk_base.specs.Outside.{Rose}
 use Rattle.xk_base.specs.UserMemory.{Memory, Content, KeepsContent, Timer, timer_stored, with_number}
 use Rattle.machine_model.specs.Hart.Instructions.{Executed, Next, Stores, StoresToConsole, StoresToTimer, CallsKernel, Traps, execute_base}
 use Rattle.machine_model.specs.Hart.Instructions.{execute_base_at, fetch_page_fault}
@@ -143,3 +144,14 @@ UnlessFailed _ fact = fact
 abbrev pub IfFailed : Ran → Type 0 → Type 0
 IfFailed Failed fact = fact
 IfFailed _ fact = Unit {0}
+
+-- How an instruction uses memory, whatever it does: which access there is stays, and memory is fit for use unless it failed, by a
+-- fault that it counted.
+pub record UsesMemory {U : Type 0} (M : UserMemory U) (old new : U) (answer : Ran) : Type 0 where
+  pub aligned : GoesOnAligned answer
+  pub may : M.may new ≡ M.may old
+  pub console : M.console new ≡ M.console old
+  pub fit : UnlessFailed answer (M.fit new)
+  pub unfit : IfFailed answer (¬ M.fit new)
+  pub cause : IfFailed answer (Rose (M.faults old) (M.faults new))
+  pub never_falls : M.faults old ≤ M.faults new

@@ -1,11 +1,10 @@
 //! Instructions, each by its kind.
 
-ghost use Rattle.std.specs.Prelude.{◌≡◌, ◌≤◌, ◌%◌};
-ghost use Rattle.xk_base.specs.Outside.{Rose};
+ghost use Rattle.std.specs.Prelude.{◌≡◌, ◌%◌};
 ghost use Rattle.rv32_words.specs.Table.{IsInRange};
 ghost use Rattle.machine_model.specs.Hart.Instructions.{effect};
 ghost use Rattle.rv32_hart.specs.Operations.{effect_of, WritesRegister};
-ghost use Rattle.rv32_hart.specs.Running.{DoesExecute, LeavesRegisters, GoesOnAligned, UnlessFailed, IfFailed, view_of};
+ghost use Rattle.rv32_hart.specs.Running.{DoesExecute, LeavesRegisters, UsesMemory, view_of};
 
 use crate::causes::BREAKPOINT;
 use crate::jumps::{branch, following, jump};
@@ -26,14 +25,8 @@ pub fn execute<U: UserMemory>(insn: Insn, regs: &mut Regs, pc: u32, mem: &mut U)
         let after = view_of U.UserMemory mem.new in
         DoesExecute (λ mem. effect mem regs.old pc insn) before after regs.old regs.new result }
     ensures leaves { LeavesRegisters regs.old regs.new result }
-    ensures aligned { GoesOnAligned result }
-    ensures may { U.may mem.new ≡ U.may mem.old }
-    ensures console { U.console mem.new ≡ U.console mem.old }
     ensures rest { (before : U) → U.same_rest before mem.old → U.same_rest before mem.new }
-    ensures fit { UnlessFailed result (U.fit mem.new) }
-    ensures unfit { IfFailed result (¬ U.fit mem.new) }
-    ensures cause { IfFailed result (Rose (U.faults mem.old) (U.faults mem.new)) }
-    ensures never_falls { U.faults mem.old ≤ U.faults mem.new }
+    ensures uses { UsesMemory U.UserMemory mem.old mem.new result }
 {
     let operation = operation_of(insn, regs, pc);
     perform(operation, regs, pc, mem)
@@ -49,14 +42,8 @@ fn perform<U: UserMemory>(operation: Operation, regs: &mut Regs, pc: u32, mem: &
         let after = view_of U.UserMemory mem.new in
         DoesExecute (λ mem. effect_of mem regs.old pc operation) before after regs.old regs.new result }
     ensures leaves { LeavesRegisters regs.old regs.new result }
-    ensures aligned { GoesOnAligned result }
-    ensures may { U.may mem.new ≡ U.may mem.old }
-    ensures console { U.console mem.new ≡ U.console mem.old }
     ensures rest { (before : U) → U.same_rest before mem.old → U.same_rest before mem.new }
-    ensures fit { UnlessFailed result (U.fit mem.new) }
-    ensures unfit { IfFailed result (¬ U.fit mem.new) }
-    ensures cause { IfFailed result (Rose (U.faults mem.old) (U.faults mem.new)) }
-    ensures never_falls { U.faults mem.old ≤ U.faults mem.new }
+    ensures uses { UsesMemory U.UserMemory mem.old mem.new result }
 {
     match operation {
         Operation::Write(rd, value) => {

@@ -1,12 +1,11 @@
 //! Loads.
 
-ghost use Rattle.std.specs.Prelude.{◌≡◌, ◌≤◌, ◌%◌, ◌==◌};
-ghost use Rattle.xk_base.specs.Outside.{Rose};
+ghost use Rattle.std.specs.Prelude.{◌≡◌, ◌%◌, ◌==◌};
 ghost use Rattle.xk_base.specs.UserMemory.{size_of};
 ghost use Rattle.rv32_words.specs.Formats.{IsRegister};
 ghost use Rattle.machine_model.specs.Hart.Instructions.{loads};
 ghost use Rattle.rv32_hart.specs.Operations.{extended};
-ghost use Rattle.rv32_hart.specs.Running.{DoesExecute, LeavesRegisters, GoesOnAligned, UnlessFailed, IfFailed, view_of};
+ghost use Rattle.rv32_hart.specs.Running.{DoesExecute, LeavesRegisters, UsesMemory, view_of};
 
 use crate::arithmetic::{sign_extend_byte, sign_extend_half};
 use crate::causes::{LOAD_MISALIGNED, LOAD_PAGE_FAULT};
@@ -56,14 +55,8 @@ pub fn load<U: UserMemory>(
         let after = view_of U.UserMemory mem.new in
         DoesExecute (λ mem. loads mem regs.old pc rd address width (extended width signed)) before after regs.old regs.new result }
     ensures leaves { LeavesRegisters regs.old regs.new result }
-    ensures aligned { GoesOnAligned result }
-    ensures may { U.may mem.new ≡ U.may mem.old }
-    ensures console { U.console mem.new ≡ U.console mem.old }
     ensures rest { (before : U) → U.same_rest before mem.old → U.same_rest before mem.new }
-    ensures fit { UnlessFailed result (U.fit mem.new) }
-    ensures unfit { IfFailed result (¬ U.fit mem.new) }
-    ensures cause { IfFailed result (Rose (U.faults mem.old) (U.faults mem.new)) }
-    ensures never_falls { U.faults mem.old ≤ U.faults mem.new }
+    ensures uses { UsesMemory U.UserMemory mem.old mem.new result }
 {
     if !is_aligned(address, width) {
         return Ran::Trap {

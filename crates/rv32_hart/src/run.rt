@@ -1,9 +1,8 @@
 //! One instruction.
 
-ghost use Rattle.std.specs.Prelude.{◌≡◌, ◌≤◌, ◌%◌};
-ghost use Rattle.xk_base.specs.Outside.{Rose};
+ghost use Rattle.std.specs.Prelude.{◌≡◌, ◌%◌};
 ghost use Rattle.machine_model.specs.Hart.Instructions.{execute_base};
-ghost use Rattle.rv32_hart.specs.Running.{DoesExecute, Executes, LeavesRegisters, GoesOnAligned, UnlessFailed, IfFailed, view_of};
+ghost use Rattle.rv32_hart.specs.Running.{DoesExecute, Executes, LeavesRegisters, UsesMemory, view_of};
 
 use crate::causes::{FETCH_PAGE_FAULT, ILLEGAL_INSTRUCTION};
 use crate::execute::execute;
@@ -24,14 +23,8 @@ pub fn run_one<U: UserMemory>(regs: &mut Regs, pc: u32, mem: &mut U) -> Ran
         let after = view_of U.UserMemory mem.new in
         Executes before after regs.old regs.new pc result }
     ensures leaves { LeavesRegisters regs.old regs.new result }
-    ensures aligned { GoesOnAligned result }
-    ensures may { U.may mem.new ≡ U.may mem.old }
-    ensures console { U.console mem.new ≡ U.console mem.old }
     ensures rest { U.same_rest mem.old mem.new }
-    ensures fit { UnlessFailed result (U.fit mem.new) }
-    ensures unfit { IfFailed result (¬ U.fit mem.new) }
-    ensures cause { IfFailed result (Rose (U.faults mem.old) (U.faults mem.new)) }
-    ensures never_falls { U.faults mem.old ≤ U.faults mem.new }
+    ensures uses { UsesMemory U.UserMemory mem.old mem.new result }
 {
     match mem.fetch(pc) {
         Ok(Some(word)) => run_word(word, regs, pc, mem),
@@ -53,14 +46,8 @@ pub fn run_word<U: UserMemory>(word: u32, regs: &mut Regs, pc: u32, mem: &mut U)
         let after = view_of U.UserMemory mem.new in
         DoesExecute (execute_base regs.old pc word) before after regs.old regs.new result }
     ensures leaves { LeavesRegisters regs.old regs.new result }
-    ensures aligned { GoesOnAligned result }
-    ensures may { U.may mem.new ≡ U.may mem.old }
-    ensures console { U.console mem.new ≡ U.console mem.old }
     ensures rest { (before : U) → U.same_rest before mem.old → U.same_rest before mem.new }
-    ensures fit { UnlessFailed result (U.fit mem.new) }
-    ensures unfit { IfFailed result (¬ U.fit mem.new) }
-    ensures cause { IfFailed result (Rose (U.faults mem.old) (U.faults mem.new)) }
-    ensures never_falls { U.faults mem.old ≤ U.faults mem.new }
+    ensures uses { UsesMemory U.UserMemory mem.old mem.new result }
 {
     match decode(word) {
         Some(insn) => execute(insn, regs, pc, mem),

@@ -1,9 +1,8 @@
 //! Stores.
 
-ghost use Rattle.std.specs.Prelude.{◌≡◌, ◌≤◌, ◌%◌, ℕ, List};
-ghost use Rattle.xk_base.specs.Outside.{Rose};
+ghost use Rattle.std.specs.Prelude.{◌≡◌, ◌%◌, ℕ, List};
 ghost use Rattle.machine_model.specs.Hart.Instructions.{stores};
-ghost use Rattle.rv32_hart.specs.Running.{DoesExecute, GoesOnAligned, UnlessFailed, IfFailed, view_of};
+ghost use Rattle.rv32_hart.specs.Running.{DoesExecute, UsesMemory, view_of};
 
 use crate::causes::{STORE_MISALIGNED, STORE_PAGE_FAULT};
 use crate::jumps::following;
@@ -18,14 +17,8 @@ pub fn store<U: UserMemory>(mem: &mut U, pc: u32, address: u32, width: Width, va
     ensures executes { let before = view_of U.UserMemory mem.old in
         let after = view_of U.UserMemory mem.new in
         (regs : List ℕ) → DoesExecute (λ mem. stores mem regs pc address width value) before after regs regs result }
-    ensures aligned { GoesOnAligned result }
-    ensures may { U.may mem.new ≡ U.may mem.old }
-    ensures console { U.console mem.new ≡ U.console mem.old }
     ensures rest { (before : U) → U.same_rest before mem.old → U.same_rest before mem.new }
-    ensures fit { UnlessFailed result (U.fit mem.new) }
-    ensures unfit { IfFailed result (¬ U.fit mem.new) }
-    ensures cause { IfFailed result (Rose (U.faults mem.old) (U.faults mem.new)) }
-    ensures never_falls { U.faults mem.old ≤ U.faults mem.new }
+    ensures uses { UsesMemory U.UserMemory mem.old mem.new result }
 {
     if !is_aligned(address, width) {
         return Ran::Trap {

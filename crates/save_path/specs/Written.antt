@@ -1,5 +1,6 @@
 -- What a save leaves: in the sheet, and of the memory whose pages it brings in.
 use Rattle.std.specs.Prelude.{◌≡◌, ℕ, ◌+◌, ◌*◌, ◌<◌, ◌≤◌, ◌^◌, true, List, [], ◌∷◌, ◌++◌, length, map, Option, is_some}
+use Rattle.std.specs.Prelude.{Result, OnErr, OnOk}
 use Rattle.std.specs.List.{flat_map}
 use Rattle.ledger_model.specs.Ledger.{Ledger}
 use Rattle.ledger_model.specs.Loans.{bare}
@@ -7,13 +8,14 @@ use Rattle.machine_model.specs.State.Machine.{Machine, Reservation}
 use Rattle.suspend_image.specs.Sheets.{SheetBytes, appended}
 use Rattle.suspend_image.specs.Spelling.{machine_bytes, rows_bytes, with_header}
 use Rattle.vm_memory.specs.Bytes.{MeansBytes, none_out, pages_out}
-use Rattle.vm_memory.specs.Memory.{ledger, size, store_of}
+use Rattle.vm_memory.specs.Memory.{IsUsable, has_failed, ledger, size, store_of}
 use Rattle.vm_memory.specs.Sound.{IsSound}
 use Rattle.vm_memory.specs.declared.memory.Memory.{Memory}
 use Rattle.save_path.specs.Rows.{PageText, home_texts, orphan_texts, text_bytes, text_words}
 use Rattle.suspend_image.specs.SavedRows.{flag, machine_row, reserved_address, reserved_pid, reserved_tid}
 use Rattle.suspend_image.specs.StateBytes.{claim_entries, pids, server_entries, thread_entries}
 use Rattle.suspend_image.specs.StateBytes.{saved_claim, saved_process, saved_server, saved_thread}
+use Rattle.xk_base.specs.Outside.{Rose}
 use Rattle.xk_ports.specs.declared.store.SwapStore.{Ghosts as SwapStore}
 use Rattle.xk_ports.specs.Keeping.{KeepsStore}
 
@@ -50,6 +52,13 @@ pub record BringsPages {W : Type 0} (S : SwapStore W)
   pub no_more : pages_out new ≤ pages_out old
   pub size : size new ≡ size old
   pub store : KeepsStore S (store_of old) (store_of new)
+
+-- Pages are read, which brings them in. The memory stays usable unless that failed, by a fault that its store counted.
+pub record ReadsPages {W A E : Type 0} (S : SwapStore W) (old new : Memory W) (result : Result A E) : Type 0 where
+  pub brings : BringsPages S old new
+  pub usable : OnOk result (IsUsable new)
+  pub failed : OnErr result (has_failed new ≡ true)
+  pub cause : OnErr result (Rose (S.faults (store_of old)) (S.faults (store_of new)))
 
 -- ---- the whole
 

@@ -1,20 +1,19 @@
 //! The pages and orphans of a state are written with their bytes. Those that are out are brought in one by one.
 
-ghost use Rattle.std.specs.Prelude.{◌≡◌, ◌<◌, ◌≤◌, ◌+◌, ◌*◌, true, length, IfOk, IsTrue, None, OnErr, OnOk, Some, [], if◌then◌else◌};
+ghost use Rattle.std.specs.Prelude.{◌≡◌, ◌<◌, ◌≤◌, ◌+◌, ◌*◌, length, IfOk, IsTrue, None, OnOk, Some, [], if◌then◌else◌};
 ghost use Rattle.ledger_model.specs.Lawful.{IsLawful};
 ghost use Rattle.ledger_model.specs.Ledger.{Bytes, Console};
 ghost use Rattle.ledger_model.specs.Places.{place_at, places_of_process};
 ghost use Rattle.vm_memory.specs.Bytes.{MeansBytes};
-ghost use Rattle.vm_memory.specs.Memory.{IsUsable, capacity_of, has_failed, ledger, processes, store_of};
+ghost use Rattle.vm_memory.specs.Memory.{IsUsable, capacity_of, ledger, processes};
 ghost use Rattle.vm_memory.specs.Sound.{IsSound};
 ghost use Rattle.vm_memory.specs.Using.Access.{reaches_bytes};
-ghost use Rattle.xk_base.specs.Outside.{Rose};
 ghost use Rattle.xk_base.specs.declared.pages.Access.TheVariants.{Load};
 ghost use Rattle.xk_base.specs.declared.limits.TheConstants.{PROCESS_LIMIT};
 ghost use Rattle.save_path.specs.Pages.{AppendsBytes, AppendsText, as_loan, reading_place, seen_page};
 ghost use Rattle.save_path.specs.Rows.{home_at, home_texts, orphan_at, orphan_texts};
 ghost use Rattle.suspend_image.specs.SavedRows.{loan_number, orphan_row, page_row, right_number};
-ghost use Rattle.save_path.specs.Written.{AppendsTexts, BringsPages, Fits};
+ghost use Rattle.save_path.specs.Written.{AppendsTexts, Fits, ReadsPages};
 
 use crate::places::{PLACES_OF_PROCESS, place_at};
 use crate::used::next_used;
@@ -98,10 +97,7 @@ fn write_contents<W: SwapStore>(
     requires usable { IsUsable mem.old }
     requires may { IsTrue (reaches_bytes (processes mem.old) (ledger W.held mem.old) at Load) }
     requires room { Fits sheet.old 4096 }
-    ensures brings { BringsPages W.SwapStore mem.old mem.new }
-    ensures usable { OnOk result (IsUsable mem.new) }
-    ensures failed { OnErr result (has_failed mem.new ≡ true) }
-    ensures cause { OnErr result (Rose (W.faults (store_of mem.old)) (W.faults (store_of mem.new))) }
+    ensures reads { ReadsPages W.SwapStore mem.old mem.new result }
     ensures bytes { OnOk result (AppendsBytes (processes mem.new) (ledger W.held mem.new) at sheet.old sheet.new) }
     ensures room { sheet.new.room ≡ sheet.old.room }
 {
@@ -122,10 +118,7 @@ fn write_home<W: SwapStore>(
     requires usable { IsUsable mem.old }
     requires number { number < places_of_process * PROCESS_LIMIT }
     requires room { Fits sheet.old 4124 }
-    ensures brings { BringsPages W.SwapStore mem.old mem.new }
-    ensures usable { OnOk result (IsUsable mem.new) }
-    ensures failed { OnErr result (has_failed mem.new ≡ true) }
-    ensures cause { OnErr result (Rose (W.faults (store_of mem.old)) (W.faults (store_of mem.new))) }
+    ensures reads { ReadsPages W.SwapStore mem.old mem.new result }
     ensures text { IfOk result (AppendsText (MeansBytes W.SwapStore mem.old) sheet.old sheet.new (home_at (ledger W.held mem.old) number)) }
     ensures room { sheet.new.room ≡ sheet.old.room }
 {
@@ -155,10 +148,7 @@ fn write_orphan<W: SwapStore>(
     requires usable { IsUsable mem.old }
     requires number { number < places_of_process * PROCESS_LIMIT }
     requires room { Fits sheet.old 4124 }
-    ensures brings { BringsPages W.SwapStore mem.old mem.new }
-    ensures usable { OnOk result (IsUsable mem.new) }
-    ensures failed { OnErr result (has_failed mem.new ≡ true) }
-    ensures cause { OnErr result (Rose (W.faults (store_of mem.old)) (W.faults (store_of mem.new))) }
+    ensures reads { ReadsPages W.SwapStore mem.old mem.new result }
     ensures text { IfOk result
         (AppendsText (MeansBytes W.SwapStore mem.old) sheet.old sheet.new (orphan_at (ledger W.held mem.old) number)) }
     ensures room { sheet.new.room ≡ sheet.old.room }
@@ -191,10 +181,7 @@ pub(crate) fn write_homes<W: SwapStore>(
     requires procs { procs ≤ PROCESS_LIMIT }
     requires made { procs ≡ processes mem.old }
     requires room { Fits sheet.old (4 + 4124 * (length (home_texts procs (ledger W.held mem.old)) + 1)) }
-    ensures brings { BringsPages W.SwapStore mem.old mem.new }
-    ensures usable { OnOk result (IsUsable mem.new) }
-    ensures failed { OnErr result (has_failed mem.new ≡ true) }
-    ensures cause { OnErr result (Rose (W.faults (store_of mem.old)) (W.faults (store_of mem.new))) }
+    ensures reads { ReadsPages W.SwapStore mem.old mem.new result }
     ensures texts { OnOk result
         (AppendsTexts (MeansBytes W.SwapStore mem.old) sheet.old sheet.new (home_texts procs (ledger W.held mem.old))) }
     ensures room { sheet.new.room ≡ sheet.old.room }
@@ -223,10 +210,7 @@ pub(crate) fn write_orphans<W: SwapStore>(
     requires procs { procs ≤ PROCESS_LIMIT }
     requires made { procs ≡ processes mem.old }
     requires room { Fits sheet.old (4 + 4124 * (length (orphan_texts procs (ledger W.held mem.old)) + 1)) }
-    ensures brings { BringsPages W.SwapStore mem.old mem.new }
-    ensures usable { OnOk result (IsUsable mem.new) }
-    ensures failed { OnErr result (has_failed mem.new ≡ true) }
-    ensures cause { OnErr result (Rose (W.faults (store_of mem.old)) (W.faults (store_of mem.new))) }
+    ensures reads { ReadsPages W.SwapStore mem.old mem.new result }
     ensures texts { OnOk result
         (AppendsTexts (MeansBytes W.SwapStore mem.old) sheet.old sheet.new (orphan_texts procs (ledger W.held mem.old))) }
     ensures room { sheet.new.room ≡ sheet.old.room }

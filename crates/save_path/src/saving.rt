@@ -6,7 +6,7 @@ ghost use Rattle.machine_model.specs.Runs.Matched.{Matched};
 ghost use Rattle.process_table.specs.Shown.{process_count};
 ghost use Rattle.save_path.specs.Fitting.{IsFit};
 ghost use Rattle.save_path.specs.Saved.{saved_machine, saved_parts};
-ghost use Rattle.save_path.specs.Written.{Appends, BringsPages, Fits, IsSaved, WritesPages, front_parts};
+ghost use Rattle.save_path.specs.Written.{Appends, BringsPages, Fits, IsSaved, ReadsPages, WritesPages, front_parts};
 ghost use Rattle.suspend_image.specs.Saveable.{IsSaveable};
 ghost use Rattle.suspend_image.specs.Sheets.{room_for, with_bytes};
 ghost use Rattle.suspend_image.specs.StateBytes.{saved_bytes};
@@ -73,10 +73,7 @@ fn write_pages<W: SwapStore>(
     requires usable { IsUsable mem.old }
     requires procs { procs ≡ processes mem.old }
     requires room { Fits sheet.old (8 + 4124 * (capacity_of mem.old + 3)) }
-    ensures brings { BringsPages W.SwapStore mem.old mem.new }
-    ensures usable { OnOk result (IsUsable mem.new) }
-    ensures failed { OnErr result (has_failed mem.new ≡ true) }
-    ensures cause { OnErr result (Rose (W.faults (store_of mem.old)) (W.faults (store_of mem.new))) }
+    ensures reads { ReadsPages W.SwapStore mem.old mem.new result }
     ensures pages { let known = MeansBytes W.SwapStore mem.old in
         OnOk result (WritesPages known (processes mem.new) (ledger W.held mem.new) sheet.old sheet.new) }
     ensures room { sheet.new.room ≡ sheet.old.room }

@@ -5,5 +5,6 @@ pub mod OverLemmas
 pub mod QuietStepLemmas
 pub mod RowLemmas
 pub mod RowOverLemmas
+pub mod StoodLemmas
 pub mod TurnLemmas
 pub mod WithoutTimerLemmas

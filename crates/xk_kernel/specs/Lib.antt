@@ -1,6 +1,7 @@
 pub mod Knowing
 pub mod Acting
 pub mod Calling
+pub mod Moments
 pub mod Quiet
 pub mod QuietOver
 pub mod Ringing

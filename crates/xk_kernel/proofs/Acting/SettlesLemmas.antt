@@ -1,7 +1,7 @@
 -- What a thread does over any bytes: the machine is matched once the step is counted, the log tells little, and where frames are few.
 use Rattle.std.proofs.Common.{◌≡◌, ℕ, ◌+◌, ◌<◌, ◌≤◌, ◌⊎◌, Bool, true, false, List, [], ◌++◌, length, map, None, refl, sym, ap, subst, ◌∙◌, arith, inl, inr}
 use Rattle.std.specs.Prelude.{◌==◌, nat_lt, Err, Ok, OnErr, Result}
-use Rattle.std.proofs.lemmas.Bool.{and_parts, eqb-true, false≢true, ltb-true}
+use Rattle.std.proofs.lemmas.Bool.{and_parts, eqb-true, ltb-true}
 use Rattle.boot_plan.specs.Capacity.{page_frames}
 use Rattle.ledger_model.specs.Ledger.{Ledger, pages}
 use Rattle.machine_laws.proofs.Dying.DeathLemmas.{death_keeps}
@@ -106,15 +106,15 @@ module _ {W : Type 0} (held : W → Held) (old new : Kernel W) (same : size new.
 
 -- ---- frames
 
--- where a part puts no page out, one that is out afterwards was out before
-pub out_before : {Fact : Type 0} (before after : Bool) → (before ≡ true → after ≡ true) → after ≡ false → (before ≡ false) ⊎ Fact
-out_before true after stays out = absurd (false≢true (sym out ∙ stays refl))
-out_before false after stays out = inl refl
-
--- .. or it went out in the other part
+-- a page was out before, or it went out since
 pub out_since : {Fact : Type 0} (before : Bool) → (before ≡ true → Fact) → (before ≡ false) ⊎ Fact
 out_since true fact = inr (fact refl)
 out_since false fact = inl refl
+
+-- what holds where none was out before holds anyway
+pub out_so : {Fact : Type 0} (before : Bool) → (before ≡ true → (before ≡ false) ⊎ Fact) → (before ≡ false) ⊎ Fact
+out_so true fact = fact refl
+out_so false fact = inl refl
 
 -- a call that is crowded leaves the thread's step so
 pub crowds_acted : {W : Type 0} (held : W → Held) (old begun : Kernel W) (who : ThreadId) (words : List ℕ) → size begun.mem ≡ size old.mem

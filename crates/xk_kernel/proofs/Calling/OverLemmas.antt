@@ -1,6 +1,8 @@
 -- What a call tells over bytes that may not be known.
 use Rattle.std.proofs.Common.{◌≡◌, List, ◌∷◌, [], sym, ap, ◌∙◌}
 use Rattle.std.proofs.lemmas.List.{append_assoc}
+use Rattle.std.proofs.lemmas.Result.{on_err_weaker}
+use Rattle.std.specs.Prelude.{Result}
 use Rattle.machine_model.specs.State.Changes.{Told}
 use Rattle.machine_model.specs.State.Machine.{Machine}
 use Rattle.machine_model.specs.Stepping.Step.{after}
@@ -9,8 +11,9 @@ use Rattle.xk_base.specs.declared.records.What.{What}
 use Rattle.xk_kernel.specs.Knowing.{ComesTo}
 use Rattle.machine_model.specs.Runs.Isolation.{without_bytes}
 use Rattle.xk_kernel.specs.State.{machine_of}
-use Rattle.xk_kernel.specs.Telling.{Tells, TellsOver, log_with}
+use Rattle.xk_kernel.specs.Telling.{Leaves, Tells, TellsOver, log_with}
 use Rattle.xk_kernel.specs.declared.kernel.Kernel.{Kernel}
+use Rattle.xk_ports.specs.declared.store.SwapStore.{Ghosts as SwapStore}
 use Rattle.xk_kernel.proofs.Memory.KnownLemmas.{comes_same, comes_through}
 
 module _ {W : Type 0} (held : W → Held) (old new : Kernel W) where
@@ -41,3 +44,16 @@ module _ {W : Type 0} (held : W → Held) (old new : Kernel W) where
     machine = tells.machine;
     log = tells.log ∙ ap (log_with done.told) log ∙ ap (λ records. record old.log { records = records }) (append_assoc old.log.records _ _);
   }
+
+-- where pages may move for what follows
+pub leaves_where : {W A E : Type 0} {S : SwapStore W} {old new : Kernel W} {a b : Type 0} (result : Result A E) → (a → b)
+    → Leaves S old new a result → Leaves S old new b result
+leaves_where result follows leaves = record {
+  whole = leaves.whole;
+  usable = leaves.usable;
+  keeps = leaves.keeps;
+  failed = leaves.failed;
+  cause = leaves.cause;
+  crowded = on_err_weaker result follows leaves.crowded;
+  near = λ none out. follows (leaves.near none out);
+}

@@ -1,7 +1,8 @@
 -- Quiet steps of a thread in hand over its memory, one after the other, in every kernel around that memory.
 use Rattle.xk_ports.specs.declared.store.SwapStore.{Ghosts as SwapStore}
-use Rattle.std.proofs.Common.{◌≡◌, ℕ, suc, ◌+◌, ◌<◌, ◌≤◌, ◌%◌, Bool, true, false, Option, refl, sym, ap, subst, ◌∙◌, arith}
-use Rattle.std.proofs.lemmas.Bool.{false≢true}
+use Rattle.std.proofs.Common.{◌≡◌, ℕ, zero, suc, ◌+◌, ◌<◌, ◌≤◌, ◌%◌, Bool, true, false, Option, refl, sym, ap, subst, ◌∙◌, arith}
+use Rattle.std.specs.Prelude.{nat_lt}
+use Rattle.std.proofs.lemmas.Bool.{false≢true, ltb-false, ltb-true}
 use Rattle.machine_model.specs.Stepping.Step.{step}
 use Rattle.machine_model.specs.Stepping.Timer.{is_due}
 use Rattle.thread_table.specs.declared.thread.Thread.{Thread as TableThread}
@@ -15,7 +16,7 @@ use Rattle.xk_base.specs.Outside.{Rose}
 use Rattle.xk_base.specs.declared.ids.Pid.{Pid}
 use Rattle.xk_base.specs.declared.ids.ThreadId.{ThreadId}
 use Rattle.xk_kernel.specs.Quiet.{GoesQuietly, is_quiet}
-use Rattle.xk_kernel.specs.QuietOver.{Lent, MayStep, RunsOver, StepsOver, around, machine_with}
+use Rattle.xk_kernel.specs.QuietOver.{CameBy, CameByAll, GoesOver, Lent, MayStep, RunsOver, StepsOver, Taken, around, lent_to, machine_with}
 use Rattle.xk_kernel.specs.State.{machine_of}
 use Rattle.xk_kernel.specs.declared.kernel.Kernel.{Kernel}
 use Rattle.xk_kernel.proofs.Memory.MemoryPartLemmas.{whole_with}
@@ -33,19 +34,37 @@ rose_since : (before between now : ℕ) → before ≤ between → Rose between 
 rose_since before between now low rose = omega (arith, low, rose)
 
 module _ {W : Type 0} (S : SwapStore W) (who : ThreadId) where
-  -- so many steps were done, each of them quiet, in every kernel around the memory
-  abbrev pub GoesOver : ℕ → Lent W → Lent W → Type 0
-  GoesOver done old new =
-      (k : Kernel W) → MayStep S (around old.mem who k) → ((j : ℕ) → j < done → is_due k.timer (k.steps + j + 1) ≡ false)
-      → MeansBytes S old.mem → GoesQuietly done (machine_with S.held k who old k.steps) (machine_with S.held k who new (k.steps + done))
-
-  -- .. of the thread of that process, and what its steps keep
+  -- so many quiet steps of the thread of that process, and what they keep
   pub record HasGone (pid : Pid) (old new : Memory W) (before after : TableThread) (reserved left : Option ℕ) (done : ℕ) : Type 0 where
     pub rest : KeepsRest S pid old new
     pub state : after.state ≡ before.state
     pub aligned : after.pc % 4 ≡ 0
     pub usable : IsUsable new
-    pub goes : GoesOver done (lent old before reserved) (lent new after left)
+    pub goes : GoesOver S who (lent old before reserved) (lent new after left) done
+    pub came : CameByAll S who (record { mem = old; thread = before; reserved = reserved }) done
+
+  goes_none : (taken : Lent W) → GoesOver S who taken taken 0
+  goes_none taken k may undue means = let e : k.steps + 0 ≡ k.steps = omega arith in ap (machine_with S.held k who taken) e
+
+  came_none : (taken : Taken W) → IsUsable taken.mem → taken.thread.pc % 4 ≡ 0 → CameByAll S who taken 0
+  came_none taken usable aligned zero within = record {
+    taken = taken;
+    goes = goes_none (lent_to taken);
+    rest = rest_same S who.pid taken.mem;
+    usable = usable;
+    state = refl;
+    aligned = aligned;
+  }
+  came_none taken usable aligned (suc n) within = absurd (omega (arith, within))
+
+  came_more : (old : Taken W) (done : ℕ) → CameByAll S who old done → CameBy S who old (done + 1) → CameByAll S who old (done + 1)
+  came_more old done all one n within = go (nat_lt n (done + 1)) refl
+    where
+      go : (b : Bool) → nat_lt n (done + 1) ≡ b → CameBy S who old n
+      go true e = all n (let less = ltb-true n (done + 1) e in omega (arith, less))
+      go false e =
+          let same : done + 1 ≡ n = let more = ltb-false n (done + 1) e in omega (arith, more, within) in
+          subst (CameBy S who old) same one
 
   pub gone_none : (pid : Pid) (old : Memory W) (t : TableThread) (reserved : Option ℕ) → IsUsable old → t.pc % 4 ≡ 0
       → HasGone pid old old t t reserved reserved 0
@@ -54,7 +73,8 @@ module _ {W : Type 0} (S : SwapStore W) (who : ThreadId) where
     state = refl;
     aligned = aligned;
     usable = usable;
-    goes = λ k may undue means. let e : k.steps + 0 ≡ k.steps = omega arith in ap (machine_with S.held k who (lent old t reserved)) e;
+    goes = goes_none (lent old t reserved);
+    came = came_none (record { mem = old; thread = t; reserved = reserved }) usable aligned;
   }
 
   -- the kernels around a memory are as they were around the one before
@@ -66,9 +86,9 @@ module _ {W : Type 0} (S : SwapStore W) (who : ThreadId) where
       matched = matched_memory S (around old.mem who k) mid.mem who may.matched kept;
     }
 
-    module _ (new : Lent W) (done : ℕ) (goes : GoesOver done old mid) where
+    module _ (new : Lent W) (done : ℕ) (goes : GoesOver S who old mid done) where
       -- one more
-      pub goes_on : StepsOver S who mid new true → GoesOver (done + 1) old new
+      pub goes_on : StepsOver S who mid new true → GoesOver S who old new (done + 1)
       goes_on s k may undue means =
           let d : (is_quiet (machine_with S.held k who mid (k.steps + done)) ≡ true)
           × (machine_with S.held k who new (k.steps + done + 1) ≡ (step (machine_with S.held k who mid (k.steps + done))).machine) =
@@ -91,10 +111,10 @@ module _ {W : Type 0} (S : SwapStore W) (who : ThreadId) where
           }
 
   -- all were done that were to be
-  pub goes_all : (old new : Lent W) (most done : ℕ) → done ≡ most → GoesOver done old new
+  pub goes_all : (old new : Lent W) (most done : ℕ) → done ≡ most → GoesOver S who old new done
       → RunsOver S who old new most most
   goes_all old new most done all goes k may undue means = record {
-    steps = (subst (λ n. GoesOver n old new) all goes) k may undue means;
+    steps = (subst (GoesOver S who old new) all goes) k may undue means;
     next = λ less. absurd (omega (arith, less));
   }
 
@@ -117,6 +137,14 @@ module _ {W : Type 0} (S : SwapStore W) (who : ThreadId) where
         aligned = aligned;
         usable = usable;
         goes = goes_on (lent old t r) (lent mid u s) kept (lent new v q) done h.goes step;
+        came = came_more (record { mem = old; thread = t; reserved = r }) done h.came (record {
+          taken = record { mem = new; thread = v; reserved = q };
+          goes = goes_on (lent old t r) (lent mid u s) kept (lent new v q) done h.goes step;
+          rest = subst (λ p. KeepsRest S p old new) own (rest_on rest);
+          usable = usable;
+          state = state ∙ h.state;
+          aligned = aligned;
+        });
       }
 
       pub gone_out : (most : ℕ) → done < most → StepsOver S who (lent mid u s) (lent new v q) false

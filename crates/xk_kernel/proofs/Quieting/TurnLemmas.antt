@@ -116,7 +116,7 @@ module _ {W : Type 0} (S : SwapStore W) (k : Kernel W) (hand : Hand) (at : (mach
     unfolding machine_of
     quiet_taken = ap is_quiet is_owned ∙ owned_quiet m (thread_of hand.thread) at
 
-    goes_taken : (n : ℕ) (new : Machine) → GoesQuietly (suc n) taken new → GoesQuietly (suc n) m new
+    pub goes_taken : (n : ℕ) (new : Machine) → GoesQuietly (suc n) taken new → GoesQuietly (suc n) m new
     unfolding machine_of
     goes_taken n new goes =
         goes_from n (owned k.cursor m) m new (owned_quiet m (thread_of hand.thread) at)

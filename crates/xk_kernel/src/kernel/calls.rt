@@ -1,22 +1,19 @@
 //! System calls.
 
-ghost use Rattle.std.specs.Prelude.{ℕ, List, ◌≡◌, ◌+◌, ◌<◌, ◌≤◌, true, false, length, OnErr, OnOk, IfOk};
+ghost use Rattle.std.specs.Prelude.{ℕ, List, ◌≡◌, ◌+◌, ◌<◌, ◌≤◌, true, false, length, OnOk, IfOk};
 ghost use Rattle.machine_model.specs.Calling.Calls.{call};
 ghost use Rattle.machine_model.specs.State.Changes.{Refused, Retried, call_settled};
 ghost use Rattle.machine_model.specs.State.Order.{ready_at};
 ghost use Rattle.machine_model.specs.Stepping.Step.{after};
 ghost use Rattle.syscall_codec.specs.Calls.{Asks};
-ghost use Rattle.vm_memory.specs.Bytes.{none_out};
-ghost use Rattle.vm_memory.specs.Memory.{has_failed, store_of};
-ghost use Rattle.xk_base.specs.Outside.{Rose};
 ghost use Rattle.xk_base.specs.Tables.Circle.{thread_ids};
 ghost use Rattle.xk_base.specs.declared.limits.TheConstants.{PROCESS_LIMIT};
 ghost use Rattle.xk_base.specs.declared.records.What.TheVariants.{Call as Called};
 ghost use Rattle.xk_kernel.specs.Calling.{CrowdsBy, IfUndone, IsCaller, ServesAs, is_plain_call, is_refused_caller};
 ghost use Rattle.xk_kernel.specs.Knowing.{KnowsBytes};
-ghost use Rattle.xk_kernel.specs.Sound.{IsUsable, IsWhole, Keeps};
+ghost use Rattle.xk_kernel.specs.Sound.{IsWhole};
 ghost use Rattle.xk_kernel.specs.State.{machine_of};
-ghost use Rattle.xk_kernel.specs.Telling.{Tells, TellsOver};
+ghost use Rattle.xk_kernel.specs.Telling.{Leaves, Tells, TellsOver};
 
 use crate::kernel::{Kernel, SwapFault};
 use syscall_codec::{Call, Reply, can_wait, read_call, reply_words};
@@ -39,17 +36,11 @@ impl<W: SwapStore> Kernel<W> {
     pub(super) fn call(&mut self, words: [u32; 8]) -> Result<(), SwapFault>
         requires calls { IsCaller W.SwapStore self.old }
         requires room { length self.old.log.records + thread_ids PROCESS_LIMIT + 2 ≤ self.old.log.room }
-        ensures whole { IsWhole W.SwapStore self.new }
-        ensures usable { OnOk result (IsUsable self.new) }
         ensures tells { let m = machine_of W.held self.old in
             OnOk result (TellsOver (KnowsBytes W.SwapStore self.old self.new) W.held self.old self.new
             (after (Called self.old.cursor words) (call_settled m (call m words)))) }
-        ensures keeps { Keeps W.SwapStore self.old self.new }
-        ensures failed { OnErr result (has_failed self.new.mem ≡ true) }
-        ensures cause { OnErr result (Rose (W.faults (store_of self.old.mem)) (W.faults (store_of self.new.mem))) }
-        ensures crowded { OnErr result (CrowdsBy W.held self.old (call (machine_of W.held self.old) words)) }
-        ensures near { none_out self.old.mem ≡ true → none_out self.new.mem ≡ false
-            → CrowdsBy W.held self.old (call (machine_of W.held self.old) words) }
+        ensures leaves { let outcome = call (machine_of W.held self.old) words in
+            Leaves W.SwapStore self.old self.new (CrowdsBy W.held self.old outcome) result }
     {
         self.log.push(What::Call(self.cursor, words));
         match read_call(words) {
@@ -74,17 +65,11 @@ impl<W: SwapStore> Kernel<W> {
         requires calls { IsCaller W.SwapStore self.old }
         requires asks { Asks words asked }
         requires room { length self.old.log.records + thread_ids PROCESS_LIMIT + 1 ≤ self.old.log.room }
-        ensures whole { IsWhole W.SwapStore self.new }
-        ensures usable { OnOk result (IsUsable self.new) }
         ensures tells { let m = machine_of W.held self.old in
             OnOk result (TellsOver (KnowsBytes W.SwapStore self.old self.new) W.held self.old self.new
             (call_settled m (call m words))) }
-        ensures keeps { Keeps W.SwapStore self.old self.new }
-        ensures failed { OnErr result (has_failed self.new.mem ≡ true) }
-        ensures cause { OnErr result (Rose (W.faults (store_of self.old.mem)) (W.faults (store_of self.new.mem))) }
-        ensures crowded { OnErr result (CrowdsBy W.held self.old (call (machine_of W.held self.old) words)) }
-        ensures near { none_out self.old.mem ≡ true → none_out self.new.mem ≡ false
-            → CrowdsBy W.held self.old (call (machine_of W.held self.old) words) }
+        ensures leaves { let outcome = call (machine_of W.held self.old) words in
+            Leaves W.SwapStore self.old self.new (CrowdsBy W.held self.old outcome) result }
     {
         if self.is_refused(&asked) {
             self.refuse(XousError::InvalidSyscall);
@@ -114,17 +99,11 @@ impl<W: SwapStore> Kernel<W> {
         requires free { is_refused_caller (machine_of W.held self.old) words ≡ false }
         requires plain { is_plain_call words ≡ true }
         requires room { length self.old.log.records + 2 ≤ self.old.log.room }
-        ensures whole { IsWhole W.SwapStore self.new }
-        ensures usable { OnOk result (IsUsable self.new) }
         ensures tells { let m = machine_of W.held self.old in
             OnOk result (TellsOver (KnowsBytes W.SwapStore self.old self.new) W.held self.old self.new
             (call_settled m (call m words))) }
-        ensures keeps { Keeps W.SwapStore self.old self.new }
-        ensures failed { OnErr result (has_failed self.new.mem ≡ true) }
-        ensures cause { OnErr result (Rose (W.faults (store_of self.old.mem)) (W.faults (store_of self.new.mem))) }
-        ensures crowded { OnErr result (CrowdsBy W.held self.old (call (machine_of W.held self.old) words)) }
-        ensures near { none_out self.old.mem ≡ true → none_out self.new.mem ≡ false
-            → CrowdsBy W.held self.old (call (machine_of W.held self.old) words) }
+        ensures leaves { let outcome = call (machine_of W.held self.old) words in
+            Leaves W.SwapStore self.old self.new (CrowdsBy W.held self.old outcome) result }
     {
         let who = self.cursor;
         let outcome = self.serve(asked)?;
@@ -172,21 +151,14 @@ impl<W: SwapStore> Kernel<W> {
         requires calls { IsCaller W.SwapStore self.old }
         requires free { (words : List ℕ) → Asks words asked → is_refused_caller (machine_of W.held self.old) words ≡ false }
         requires plain { (words : List ℕ) × Asks words asked × (is_plain_call words ≡ true) }
-        ensures whole { IsWhole W.SwapStore self.new }
-        ensures usable { OnOk result (IsUsable self.new) }
         ensures outcome { let old = machine_of W.held self.old in
             let new = machine_of W.held self.new in
             IfOk result (λ served. (words : List ℕ) → Asks words asked
             → ServesAs (KnowsBytes W.SwapStore self.old self.new) self.old.cursor new (call old words) served) }
         ensures undone { IfOk result (λ served. IfUndone served (self.new ≡ self.old)) }
         ensures log { self.new.log ≡ self.old.log }
-        ensures keeps { Keeps W.SwapStore self.old self.new }
-        ensures failed { OnErr result (has_failed self.new.mem ≡ true) }
-        ensures cause { OnErr result (Rose (W.faults (store_of self.old.mem)) (W.faults (store_of self.new.mem))) }
-        ensures crowded { OnErr result ((words : List ℕ) → Asks words asked
-            → CrowdsBy W.held self.old (call (machine_of W.held self.old) words)) }
-        ensures near { none_out self.old.mem ≡ true → none_out self.new.mem ≡ false → (words : List ℕ) → Asks words asked
-            → CrowdsBy W.held self.old (call (machine_of W.held self.old) words) }
+        ensures leaves { let old = machine_of W.held self.old in
+            Leaves W.SwapStore self.old self.new ((words : List ℕ) → Asks words asked → CrowdsBy W.held self.old (call old words)) result }
     {
         match asked {
             Call::MapMemory {

@@ -11,10 +11,9 @@ ghost use Rattle.xk_base.specs.Tables.Circle.{is_pid, thread_ids};
 ghost use Rattle.xk_base.specs.declared.limits.TheConstants.{PROCESS_LIMIT};
 ghost use Rattle.xk_base.specs.declared.records.What.TheVariants.{End};
 ghost use Rattle.xk_kernel.specs.Calling.{IsCaller};
-ghost use Rattle.xk_kernel.specs.Knowing.{PutsNoneOut};
-ghost use Rattle.xk_kernel.specs.Sound.{IsUsable, IsWhole, Keeps};
+ghost use Rattle.xk_kernel.specs.Sound.{IsUsable, IsWhole};
 ghost use Rattle.xk_kernel.specs.State.{machine_of};
-ghost use Rattle.xk_kernel.specs.Telling.{Tells};
+ghost use Rattle.xk_kernel.specs.Telling.{StaysUsable, Tells};
 
 use crate::kernel::Kernel;
 use crate::kernel::ringing::end_claim;
@@ -34,12 +33,9 @@ impl<W: SwapStore> Kernel<W> {
         requires matched { Matched (machine_of W.held self.old) }
         requires alive { is_living (machine_of W.held self.old) pid ≡ true }
         requires room { length self.old.log.records + thread_ids PROCESS_LIMIT + 1 ≤ self.old.log.room }
-        ensures whole { IsWhole W.SwapStore self.new }
-        ensures usable { IsUsable self.new }
         ensures tells { Tells W.held self.old self.new (settled (death pid (machine_of W.held self.old))) }
-        ensures none { PutsNoneOut self.old self.new }
         ensures store { store_of self.new.mem ≡ store_of self.old.mem }
-        ensures keeps { Keeps W.SwapStore self.old self.new }
+        ensures stays { StaysUsable W.SwapStore self.old self.new }
     {
         let timed = self.has_timer(pid);
         end_claim(&mut self.timer, timed);
@@ -60,11 +56,8 @@ impl<W: SwapStore> Kernel<W> {
     pub(super) fn die(&mut self, cause: What)
         requires calls { IsCaller W.SwapStore self.old }
         requires room { length self.old.log.records + thread_ids PROCESS_LIMIT + 2 ≤ self.old.log.room }
-        ensures whole { IsWhole W.SwapStore self.new }
-        ensures usable { IsUsable self.new }
         ensures tells { Tells W.held self.old self.new (after cause (settled (death self.old.cursor.pid (machine_of W.held self.old)))) }
-        ensures none { PutsNoneOut self.old self.new }
-        ensures keeps { Keeps W.SwapStore self.old self.new }
+        ensures stays { StaysUsable W.SwapStore self.old self.new }
     {
         self.log.push(cause);
         self.kill(self.cursor.pid);
@@ -74,12 +67,9 @@ impl<W: SwapStore> Kernel<W> {
     pub(super) fn terminate(&mut self)
         requires calls { IsCaller W.SwapStore self.old }
         requires room { length self.old.log.records + thread_ids PROCESS_LIMIT + 1 ≤ self.old.log.room }
-        ensures whole { IsWhole W.SwapStore self.new }
-        ensures usable { IsUsable self.new }
         ensures tells { let m = machine_of W.held self.old in
             Tells W.held self.old self.new (call_settled m (Served (death self.old.cursor.pid m))) }
-        ensures none { PutsNoneOut self.old self.new }
-        ensures keeps { Keeps W.SwapStore self.old self.new }
+        ensures stays { StaysUsable W.SwapStore self.old self.new }
     {
         self.kill(self.cursor.pid);
     }
@@ -125,12 +115,9 @@ impl<W: SwapStore> Kernel<W> {
         requires calls { IsCaller W.SwapStore self.old }
         requires above { 1 < self.old.cursor.tid.0 }
         requires room { length self.old.log.records + thread_ids PROCESS_LIMIT + 2 ≤ self.old.log.room }
-        ensures whole { IsWhole W.SwapStore self.new }
-        ensures usable { IsUsable self.new }
         ensures tells { Tells W.held self.old self.new
             (after (End self.old.cursor) (settled (thread_ended self.old.cursor a0 (machine_of W.held self.old)))) }
-        ensures none { PutsNoneOut self.old self.new }
-        ensures keeps { Keeps W.SwapStore self.old self.new }
+        ensures stays { StaysUsable W.SwapStore self.old self.new }
     {
         let who = self.cursor;
         self.log.push(What::End(who));

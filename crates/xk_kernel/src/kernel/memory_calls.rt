@@ -1,20 +1,18 @@
 //! The five calls on memory. The caller is the thread whose turn it is.
 
-ghost use Rattle.std.specs.Prelude.{◌≡◌, ◌==◌, ◌/◌, true, false, if◌then◌else◌, None, Some, IfOk, OnErr, OnOk};
+ghost use Rattle.std.specs.Prelude.{◌≡◌, ◌==◌, ◌/◌, true, false, if◌then◌else◌, None, Some, IfOk};
 ghost use Rattle.machine_model.specs.State.Changes.{Served, unless_refused};
 ghost use Rattle.machine_model.specs.Runs.Matched.{AreHeapsMatched};
 ghost use Rattle.machine_model.specs.Calling.MemoryCalls.{are_bad_flags, is_bad_range, decrease_refusals, decrease_served};
 ghost use Rattle.machine_model.specs.Calling.MemoryCalls.{increase_refusals, increase_served, map_refusals, map_served, unmap_refusals};
 ghost use Rattle.machine_model.specs.Calling.MemoryCalls.{unmap_served, update_refusals, update_served};
-ghost use Rattle.vm_memory.specs.Bytes.{none_out};
-ghost use Rattle.vm_memory.specs.Memory.{has_failed, store_of};
 ghost use Rattle.xk_base.specs.Numbers.Windows.{page_of};
-ghost use Rattle.xk_base.specs.Outside.{Rose};
 ghost use Rattle.syscall_codec.specs.Flags.{right_of};
 ghost use Rattle.xk_kernel.specs.Calling.{CrowdsBy, IfUndone, ServesAs, outcome_of};
-ghost use Rattle.xk_kernel.specs.Knowing.{KnowsBytes, PutsNoneOut};
-ghost use Rattle.xk_kernel.specs.Sound.{IsUsable, IsWhole, Keeps};
+ghost use Rattle.xk_kernel.specs.Knowing.{KnowsBytes};
+ghost use Rattle.xk_kernel.specs.Sound.{IsUsable, IsWhole};
 ghost use Rattle.xk_kernel.specs.State.{machine_of};
+ghost use Rattle.xk_kernel.specs.Telling.{Leaves, StaysUsable};
 
 use crate::kernel::calls::CallerFate;
 use crate::kernel::{Kernel, SwapFault};
@@ -82,23 +80,15 @@ impl<W: SwapStore> Kernel<W> {
     ) -> Result<Result<CallerFate, XousError>, SwapFault>
         requires whole { IsWhole W.SwapStore self.old }
         requires usable { IsUsable self.old }
-        ensures whole { IsWhole W.SwapStore self.new }
-        ensures usable { OnOk result (IsUsable self.new) }
         ensures outcome { let m = machine_of W.held self.old in
             let outcome = unless_refused (map_refusals m phys virt size flags) (Served (map_served m phys virt size flags)) in
             let new = machine_of W.held self.new in
             IfOk result (ServesAs (KnowsBytes W.SwapStore self.old self.new) self.old.cursor new outcome) }
-        ensures crowded { let m = machine_of W.held self.old in
+        ensures leaves { let m = machine_of W.held self.old in
             let outcome = unless_refused (map_refusals m phys virt size flags) (Served (map_served m phys virt size flags)) in
-            OnErr result (CrowdsBy W.held self.old outcome) }
-        ensures near { let m = machine_of W.held self.old in
-            let outcome = unless_refused (map_refusals m phys virt size flags) (Served (map_served m phys virt size flags)) in
-            none_out self.old.mem ≡ true → none_out self.new.mem ≡ false → CrowdsBy W.held self.old outcome }
+            Leaves W.SwapStore self.old self.new (CrowdsBy W.held self.old outcome) result }
         ensures undone { IfOk result (λ served. IfUndone served (self.new ≡ self.old)) }
         ensures log { self.new.log ≡ self.old.log }
-        ensures keeps { Keeps W.SwapStore self.old self.new }
-        ensures failed { OnErr result (has_failed self.new.mem ≡ true) }
-        ensures cause { OnErr result (Rose (W.faults (store_of self.old.mem)) (W.faults (store_of self.new.mem))) }
     {
         if is_bad_range(virt, size) {
             return Ok(Err(XousError::BadAlignment));
@@ -133,15 +123,12 @@ impl<W: SwapStore> Kernel<W> {
     pub(super) fn unmap_memory(&mut self, address: u32, size: u32) -> Result<CallerFate, XousError>
         requires whole { IsWhole W.SwapStore self.old }
         requires usable { IsUsable self.old }
-        ensures whole { IsWhole W.SwapStore self.new }
-        ensures usable { IsUsable self.new }
         ensures outcome { outcome_of self.old.cursor (machine_of W.held self.new) result
             ≡ unless_refused (unmap_refusals (machine_of W.held self.old) address size)
             (Served (unmap_served (machine_of W.held self.old) address size)) }
         ensures undone { IfUndone result (self.new ≡ self.old) }
         ensures log { self.new.log ≡ self.old.log }
-        ensures none { PutsNoneOut self.old self.new }
-        ensures keeps { Keeps W.SwapStore self.old self.new }
+        ensures stays { StaysUsable W.SwapStore self.old self.new }
     {
         if is_bad_range(address, size) {
             return Err(XousError::BadAlignment);
@@ -162,15 +149,12 @@ impl<W: SwapStore> Kernel<W> {
     ) -> Result<CallerFate, XousError>
         requires whole { IsWhole W.SwapStore self.old }
         requires usable { IsUsable self.old }
-        ensures whole { IsWhole W.SwapStore self.new }
-        ensures usable { IsUsable self.new }
         ensures outcome { outcome_of self.old.cursor (machine_of W.held self.new) result
             ≡ unless_refused (update_refusals (machine_of W.held self.old) address size flags)
             (Served (update_served (machine_of W.held self.old) address size flags)) }
         ensures undone { IfUndone result (self.new ≡ self.old) }
         ensures log { self.new.log ≡ self.old.log }
-        ensures none { PutsNoneOut self.old self.new }
-        ensures keeps { Keeps W.SwapStore self.old self.new }
+        ensures stays { StaysUsable W.SwapStore self.old self.new }
     {
         if is_bad_range(address, size) {
             return Err(XousError::BadAlignment);
@@ -194,23 +178,15 @@ impl<W: SwapStore> Kernel<W> {
         requires whole { IsWhole W.SwapStore self.old }
         requires usable { IsUsable self.old }
         requires matched { AreHeapsMatched (machine_of W.held self.old).process (machine_of W.held self.old).ledger }
-        ensures whole { IsWhole W.SwapStore self.new }
-        ensures usable { OnOk result (IsUsable self.new) }
         ensures outcome { let m = machine_of W.held self.old in
             let outcome = unless_refused (increase_refusals m bytes) (Served (increase_served m bytes)) in
             let new = machine_of W.held self.new in
             IfOk result (ServesAs (KnowsBytes W.SwapStore self.old self.new) self.old.cursor new outcome) }
-        ensures crowded { let m = machine_of W.held self.old in
+        ensures leaves { let m = machine_of W.held self.old in
             let outcome = unless_refused (increase_refusals m bytes) (Served (increase_served m bytes)) in
-            OnErr result (CrowdsBy W.held self.old outcome) }
-        ensures near { let m = machine_of W.held self.old in
-            let outcome = unless_refused (increase_refusals m bytes) (Served (increase_served m bytes)) in
-            none_out self.old.mem ≡ true → none_out self.new.mem ≡ false → CrowdsBy W.held self.old outcome }
+            Leaves W.SwapStore self.old self.new (CrowdsBy W.held self.old outcome) result }
         ensures undone { IfOk result (λ served. IfUndone served (self.new ≡ self.old)) }
         ensures log { self.new.log ≡ self.old.log }
-        ensures keeps { Keeps W.SwapStore self.old self.new }
-        ensures failed { OnErr result (has_failed self.new.mem ≡ true) }
-        ensures cause { OnErr result (Rose (W.faults (store_of self.old.mem)) (W.faults (store_of self.new.mem))) }
     {
         if bytes % PAGE_SIZE != 0 {
             return Ok(Err(XousError::BadAlignment));
@@ -241,15 +217,12 @@ impl<W: SwapStore> Kernel<W> {
         requires whole { IsWhole W.SwapStore self.old }
         requires usable { IsUsable self.old }
         requires matched { AreHeapsMatched (machine_of W.held self.old).process (machine_of W.held self.old).ledger }
-        ensures whole { IsWhole W.SwapStore self.new }
-        ensures usable { IsUsable self.new }
         ensures outcome { outcome_of self.old.cursor (machine_of W.held self.new) result
             ≡ unless_refused (decrease_refusals (machine_of W.held self.old) bytes)
             (Served (decrease_served (machine_of W.held self.old) bytes)) }
         ensures undone { IfUndone result (self.new ≡ self.old) }
         ensures log { self.new.log ≡ self.old.log }
-        ensures none { PutsNoneOut self.old self.new }
-        ensures keeps { Keeps W.SwapStore self.old self.new }
+        ensures stays { StaysUsable W.SwapStore self.old self.new }
     {
         if bytes % PAGE_SIZE != 0 {
             return Err(XousError::BadAlignment);

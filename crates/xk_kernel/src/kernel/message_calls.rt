@@ -8,10 +8,8 @@ ghost use Rattle.syscall_codec.specs.CallNumbers.{forward_message as forward_num
 ghost use Rattle.syscall_codec.specs.CallNumbers.{send_message as send_number, try_send_message as try_number};
 ghost use Rattle.syscall_codec.specs.CallWords.{call_number};
 ghost use Rattle.xk_kernel.specs.Calling.{IsCaller, is_refused_caller};
-ghost use Rattle.xk_kernel.specs.Knowing.{PutsNoneOut};
-ghost use Rattle.xk_kernel.specs.Sound.{IsUsable, IsWhole, Keeps};
 ghost use Rattle.xk_kernel.specs.State.{machine_of};
-ghost use Rattle.xk_kernel.specs.Telling.{Tells};
+ghost use Rattle.xk_kernel.specs.Telling.{StaysUsable, Tells};
 
 use crate::kernel::Kernel;
 use send_path::{Sent, forward, give_back, receive, send};
@@ -26,12 +24,9 @@ impl<W: SwapStore> Kernel<W> {
         requires number { call_number words ≡ (if tries then try_number else send_number) }
         requires free { is_refused_caller (machine_of W.held self.old) words ≡ false }
         requires room { length self.old.log.records + 2 ≤ self.old.log.room }
-        ensures whole { IsWhole W.SwapStore self.new }
-        ensures usable { IsUsable self.new }
         ensures tells { let m = machine_of W.held self.old in
             Tells W.held self.old self.new (call_settled m (table_row words m)) }
-        ensures none { PutsNoneOut self.old self.new }
-        ensures keeps { Keeps W.SwapStore self.old self.new }
+        ensures stays { StaysUsable W.SwapStore self.old self.new }
     {
         let sent = send(
             &mut self.mem,
@@ -57,12 +52,9 @@ impl<W: SwapStore> Kernel<W> {
         requires calls { IsCaller W.SwapStore self.old }
         requires free { (waits && (self.old.cursor.tid.0 == 1)) ≡ false }
         requires room { length self.old.log.records + 2 ≤ self.old.log.room }
-        ensures whole { IsWhole W.SwapStore self.new }
-        ensures usable { IsUsable self.new }
         ensures tells { let m = machine_of W.held self.old in
             Tells W.held self.old self.new (call_settled m (receive_row sid waits m)) }
-        ensures none { PutsNoneOut self.old self.new }
-        ensures keeps { Keeps W.SwapStore self.old self.new }
+        ensures stays { StaysUsable W.SwapStore self.old self.new }
     {
         let received = receive(
             &mut self.threads,
@@ -85,12 +77,9 @@ impl<W: SwapStore> Kernel<W> {
         requires number { (call_number words == return_memory || call_number words == return_scalar1
             || call_number words == return_scalar2) ≡ true }
         requires room { length self.old.log.records + 2 ≤ self.old.log.room }
-        ensures whole { IsWhole W.SwapStore self.new }
-        ensures usable { IsUsable self.new }
         ensures tells { let m = machine_of W.held self.old in
             Tells W.held self.old self.new (call_settled m (table_row words m)) }
-        ensures none { PutsNoneOut self.old self.new }
-        ensures keeps { Keeps W.SwapStore self.old self.new }
+        ensures stays { StaysUsable W.SwapStore self.old self.new }
     {
         let returned = give_back(
             &mut self.mem,
@@ -112,12 +101,9 @@ impl<W: SwapStore> Kernel<W> {
         requires calls { IsCaller W.SwapStore self.old }
         requires number { call_number words ≡ forward_number }
         requires room { length self.old.log.records + 2 ≤ self.old.log.room }
-        ensures whole { IsWhole W.SwapStore self.new }
-        ensures usable { IsUsable self.new }
         ensures tells { let m = machine_of W.held self.old in
             Tells W.held self.old self.new (call_settled m (table_row words m)) }
-        ensures none { PutsNoneOut self.old self.new }
-        ensures keeps { Keeps W.SwapStore self.old self.new }
+        ensures stays { StaysUsable W.SwapStore self.old self.new }
     {
         let forwarded = forward(
             &mut self.mem,

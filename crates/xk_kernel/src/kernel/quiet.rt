@@ -7,6 +7,7 @@ ghost use Rattle.machine_model.specs.Stepping.Step.{step};
 ghost use Rattle.machine_model.specs.Stepping.Timer.{is_due};
 ghost use Rattle.xk_parts.specs.Shown.{thread_of};
 ghost use Rattle.thread_table.specs.States.{is_ready_state};
+ghost use Rattle.thread_table.specs.declared.thread.Thread.{Thread as TableThread};
 ghost use Rattle.vm_memory.specs.Bytes.{MeansBytes, none_out};
 ghost use Rattle.vm_memory.specs.Memory.{IsUsable as IsMemoryUsable, has_failed, store_of};
 ghost use Rattle.vm_memory.specs.Sound.{IsSound as IsMemorySound};
@@ -15,8 +16,9 @@ ghost use Rattle.vm_memory.specs.Using.Known.{Remembers};
 ghost use Rattle.vm_memory.specs.Using.UserView.{KeepsRest};
 ghost use Rattle.xk_base.specs.Outside.{Rose};
 ghost use Rattle.xk_kernel.specs.Knowing.{KnowsBytes, PutsNoneOut};
+ghost use Rattle.xk_kernel.specs.Moments.{StoodQuietly};
 ghost use Rattle.xk_kernel.specs.Quiet.{RunsQuietly, in_hand};
-ghost use Rattle.xk_kernel.specs.QuietOver.{Lent, RunsOver, StepsOver};
+ghost use Rattle.xk_kernel.specs.QuietOver.{CameByAll, Lent, PutsThread, RunsOver, StepsOver, Taken};
 ghost use Rattle.xk_kernel.specs.Sound.{IsSound, IsUsable, IsWhole, Keeps};
 ghost use Rattle.xk_kernel.specs.State.{machine_of};
 ghost use Rattle.xk_kernel.specs.Stepping.{last_of};
@@ -55,6 +57,9 @@ impl<W: SwapStore> Kernel<W> {
         // The steps, where bytes are known.
         ensures runs { KnowsBytes W.SwapStore self.old self.new
             → IfOk result (λ done. RunsQuietly most done (machine_of W.held self.old) (machine_of W.held self.new)) }
+        // For each state that they came to there was a kernel.
+        ensures stood { KnowsBytes W.SwapStore self.old self.new
+            → IfOk result (λ done. StoodQuietly W.SwapStore self.old done) }
         // A swap fault comes only where the store's count rose and a page is out. Only there is one out afterwards.
         ensures cause { OnErr result (Rose (W.faults (store_of self.old.mem)) (W.faults (store_of self.new.mem))) }
         ensures out { OnErr result (none_out self.old.mem ≡ false) }
@@ -120,6 +125,8 @@ impl<W: SwapStore> Kernel<W> {
             let old = in_hand who (thread_of thread.old) reserved.old self.old.steps (machine_of W.held self.old) in
             MeansBytes W.SwapStore self.old.mem → IfOk result (λ done. RunsQuietly most done old
             (in_hand who (thread_of thread.new) reserved.new (self.old.steps + done) (machine_of W.held self.new))) }
+        ensures came { let taken : Taken W = record { mem = self.old.mem; thread = thread.old; reserved = reserved.old } in
+            IfOk result (λ done. CameByAll W.SwapStore self.old.cursor taken done) }
     {
         let who = self.cursor;
         let mut user = KnownUser {
@@ -145,6 +152,8 @@ impl<W: SwapStore> Kernel<W> {
         ensures whole { IsWhole W.SwapStore self.old → IsWhole W.SwapStore self.new }
         ensures mem { self.new.mem ≡ self.old.mem }
         ensures log { self.new.log ≡ record self.old.log { step = self.old.steps + done; records = [] } }
+        // So would any other thread be.
+        ensures puts { (other : TableThread) → PutsThread self.old.threads who other }
     {
         *self.threads.thread_mut(who) = thread;
         self.steps += done;
@@ -180,6 +189,8 @@ fn quiet_row<W: SwapStore>(
     ensures runs { let old : Lent W = record { mem = user.old.mem.now; thread = thread_of thread.old; reserved = reserved.old } in
         let new : Lent W = record { mem = user.new.mem.now; thread = thread_of thread.new; reserved = reserved.new } in
         IfOk result (λ done. RunsOver W.SwapStore who old new most done) }
+    ensures came { let taken : Taken W = record { mem = user.old.mem.now; thread = thread.old; reserved = reserved.old } in
+        IfOk result (λ done. CameByAll W.SwapStore who taken done) }
 {
     'steps: for done in 0..most {
         if !quiet_step(who, thread, reserved, user)? {

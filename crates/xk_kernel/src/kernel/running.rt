@@ -1,20 +1,16 @@
 //! The instruction of a thread is executed over the memory of its process, with the timer's page over it
 //! where the process has claimed the timer's interrupt.
 
-ghost use Rattle.std.specs.Prelude.{◌≡◌, ◌%◌, true, false, IsSome, Some};
+ghost use Rattle.std.specs.Prelude.{◌≡◌, ◌%◌, false, IsSome, Some};
 ghost use Rattle.machine_model.specs.Runs.Matched.{Matched};
 ghost use Rattle.machine_model.specs.State.Machine.{Thread as ModelThread};
-ghost use Rattle.machine_model.specs.State.Order.{ready_at};
 ghost use Rattle.machine_model.specs.Stepping.Reservations.{reserved_by};
-ghost use Rattle.machine_model.specs.Stepping.Step.{performed};
 ghost use Rattle.rv32_atomics.specs.Performing.{Core, LeavesRegistersUnlessDone, Performs};
-ghost use Rattle.rv32_hart.specs.Running.{GoesOnAligned, IfFailed, UnlessFailed, ran_of, view_of};
-ghost use Rattle.vm_memory.specs.Bytes.{none_out};
-ghost use Rattle.vm_memory.specs.Memory.{has_failed, store_of};
+ghost use Rattle.rv32_hart.specs.Running.{GoesOnAligned, IfFailed, UnlessFailed, view_of};
 ghost use Rattle.xk_base.specs.Outside.{Rose};
-ghost use Rattle.xk_kernel.specs.Knowing.{KnowsBytes, PutsNoneOut};
-ghost use Rattle.xk_kernel.specs.Running.{RunsSome, machine_after, timed_view};
-ghost use Rattle.xk_kernel.specs.Sound.{IsUsable, IsWhole, Keeps};
+ghost use Rattle.xk_kernel.specs.Knowing.{KnowsBytes};
+ghost use Rattle.xk_kernel.specs.Running.{LeavesRun, RunsKnown, RunsSome, timed_view};
+ghost use Rattle.xk_kernel.specs.Sound.{IsUsable, IsWhole};
 ghost use Rattle.xk_kernel.specs.State.{machine_of};
 
 use crate::kernel::Kernel;
@@ -94,32 +90,15 @@ impl<W: SwapStore> Kernel<W> {
         requires there { IsSome ((machine_of W.held self.old).threads who) }
         requires aligned { (t : ModelThread) → (machine_of W.held self.old).threads who ≡ Some t → t.pc % 4 ≡ 0 }
         requires reserved { reserved.old ≡ reserved_by who (machine_of W.held self.old).reserved }
-        ensures whole { IsWhole W.SwapStore self.new }
-        ensures usable { UnlessFailed result (IsUsable self.new) }
-        ensures failed { IfFailed result (has_failed self.new.mem ≡ true) }
-        ensures cause { IfFailed result (Rose (W.faults (store_of self.old.mem)) (W.faults (store_of self.new.mem))) }
-        ensures out { IfFailed result (none_out self.old.mem ≡ false) }
         // Over known bytes it is the instruction that the machine performs.
-        ensures answer { let m = machine_of W.held self.old in
-            KnowsBytes W.SwapStore self.old self.new → UnlessFailed result
-            ((t : ModelThread) → m.threads who ≡ Some t → result ≡ ran_of (performed m who t).executed) }
-        ensures machine { let m = machine_of W.held self.old in
-            KnowsBytes W.SwapStore self.old self.new → UnlessFailed result
-            ((t : ModelThread) → m.threads who ≡ Some t → machine_of W.held self.new ≡ machine_after who m (performed m who t).executed) }
-        ensures reserved { let m = machine_of W.held self.old in
-            KnowsBytes W.SwapStore self.old self.new → UnlessFailed result
-            ((t : ModelThread) → m.threads who ≡ Some t → reserved.new ≡ (performed m who t).reserved) }
+        ensures performs { let m = machine_of W.held self.old in
+            KnowsBytes W.SwapStore self.old self.new → UnlessFailed result ((t : ModelThread) → m.threads who ≡ Some t
+            → RunsKnown m (machine_of W.held self.new) who t reserved.new result) }
         // Over any bytes it is some instruction of the thread, and all but the bytes of pages is as that leaves it.
         ensures some { let m = machine_of W.held self.old in
             UnlessFailed result ((t : ModelThread) → m.threads who ≡ Some t
             → RunsSome m (machine_of W.held self.new) who t reserved.new result) }
-        // Over any bytes the machine stays matched, its thread is as ready as before, and no step is counted.
-        ensures matched { Matched (machine_of W.held self.new) }
-        ensures ready { ready_at (machine_of W.held self.new) who ≡ ready_at (machine_of W.held self.old) who }
-        ensures steps { self.new.steps ≡ self.old.steps }
-        ensures none { PutsNoneOut self.old self.new }
-        ensures log { self.new.log ≡ self.old.log }
-        ensures keeps { Keeps W.SwapStore self.old self.new }
+        ensures leaves { LeavesRun W.SwapStore self.old self.new who result }
     {
         let on = self.has_timer(who.pid);
         let thread = self.threads.thread_mut(who);

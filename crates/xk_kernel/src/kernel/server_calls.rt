@@ -13,10 +13,9 @@ ghost use Rattle.xk_base.specs.Tables.Connections.{cid_for, has_room};
 ghost use Rattle.xk_base.specs.declared.errors.XousError.TheVariants.{ServerNotFound as NotFound};
 ghost use Rattle.xk_base.specs.declared.limits.TheConstants.{PROCESS_LIMIT};
 ghost use Rattle.xk_kernel.specs.Calling.{IfUndone, IsCaller, connected_outcome, outcome_of};
-ghost use Rattle.xk_kernel.specs.Knowing.{PutsNoneOut};
-ghost use Rattle.xk_kernel.specs.Sound.{IsUsable, IsWhole, Keeps};
+ghost use Rattle.xk_kernel.specs.Sound.{IsWhole};
 ghost use Rattle.xk_kernel.specs.State.{machine_of};
-ghost use Rattle.xk_kernel.specs.Telling.{Tells};
+ghost use Rattle.xk_kernel.specs.Telling.{StaysUsable, Tells};
 
 use crate::kernel::Kernel;
 use crate::kernel::calls::CallerFate;
@@ -138,12 +137,9 @@ impl<W: SwapStore> Kernel<W> {
     pub(super) fn destroy_server(&mut self, sid: Sid)
         requires calls { IsCaller W.SwapStore self.old }
         requires room { length self.old.log.records + thread_ids PROCESS_LIMIT + 1 ≤ self.old.log.room }
-        ensures whole { IsWhole W.SwapStore self.new }
-        ensures usable { IsUsable self.new }
         ensures tells { let m = machine_of W.held self.old in
             Tells W.held self.old self.new (call_settled m (unless_refused (own_server_refusals m sid) (Served (destroy_served m sid)))) }
-        ensures none { PutsNoneOut self.old self.new }
-        ensures keeps { Keeps W.SwapStore self.old self.new }
+        ensures stays { StaysUsable W.SwapStore self.old self.new }
     {
         match own_server(&self.servers, self.cursor.pid, sid) {
             Some(Seated { serial, .. }) => destroy(

@@ -14,10 +14,11 @@ ghost use Rattle.xk_base.specs.Tables.Circle.{is_thread_id};
 ghost use Rattle.xk_base.specs.Calls.Registers.{reg_at};
 ghost use Rattle.xk_base.specs.Outside.{Rose};
 ghost use Rattle.xk_kernel.specs.Acting.{Acts, TellsFew, told_by};
-ghost use Rattle.xk_kernel.specs.Knowing.{IsCrowded, KnowsBytes, PutsNoneOut};
+ghost use Rattle.xk_kernel.specs.Knowing.{IsCrowded, KnowsBytes};
 ghost use Rattle.xk_kernel.specs.Sound.{IsSound, IsUsable, IsWhole, Keeps};
 ghost use Rattle.xk_kernel.specs.State.{as_reservation, machine_of};
 ghost use Rattle.xk_kernel.specs.Stepping.{CountsStep, DoesStep, MayExchange};
+ghost use Rattle.xk_kernel.specs.Telling.{Leaves, StaysUsable};
 ghost use Rattle.xk_base.specs.declared.limits.TheConstants.{STEP_LIMIT};
 
 use crate::kernel::threads::THREAD_RETURN;
@@ -90,15 +91,10 @@ impl<W: SwapStore> Kernel<W> {
         requires few { (machine_of W.held self.old).steps < STEP_LIMIT }
         requires who { actor (machine_of W.held self.old) ≡ Some who }
         ensures sound { IsSound W.SwapStore self.new }
-        ensures usable { OnOk result (IsUsable self.new) }
-        ensures failed { OnErr result (has_failed self.new.mem ≡ true) }
         ensures counts { IfOk result (CountsStep W.held self.old self.new) }
         ensures there { OnErr result (is_some (actor (machine_of W.held self.old)) ≡ true) }
         ensures does { KnowsBytes W.SwapStore self.old self.new → IfOk result (DoesStep W.held self.old self.new) }
-        ensures cause { OnErr result (Rose (W.faults (store_of self.old.mem)) (W.faults (store_of self.new.mem))) }
-        ensures full { OnErr result (MayExchange W.held self.old) }
-        ensures out { none_out self.new.mem ≡ false → MayExchange W.held self.old }
-        ensures keeps { Keeps W.SwapStore self.old self.new }
+        ensures leaves { Leaves W.SwapStore self.old self.new (MayExchange W.held self.old) result }
     {
         let number = self.steps + 1;
         let reserved = self.act(who)?;
@@ -115,19 +111,12 @@ impl<W: SwapStore> Kernel<W> {
         requires usable { IsUsable self.old }
         requires few { self.old.steps < STEP_LIMIT }
         requires who { actor (machine_of W.held self.old) ≡ Some who }
-        ensures whole { IsWhole W.SwapStore self.new }
-        ensures usable { OnOk result (IsUsable self.new) }
-        ensures failed { OnErr result (has_failed self.new.mem ≡ true) }
         ensures acts { KnowsBytes W.SwapStore self.old self.new → IfOk result (Acts W.held self.old self.new who) }
         // Over any bytes the machine is matched once the step is counted, and the log tells of it.
         ensures settles { OnOk result (Settles (machine_of W.held self.old) (machine_of W.held self.new)) }
         ensures tells { OnOk result (TellsFew self.old self.new) }
-        ensures cause { OnErr result (Rose (W.faults (store_of self.old.mem)) (W.faults (store_of self.new.mem))) }
-        ensures full { let left = (told_by who (machine_of W.held self.old)).machine.ledger in
-            OnErr result ((none_out self.old.mem ≡ false) ⊎ IsCrowded self.old left) }
-        ensures out { let left = (told_by who (machine_of W.held self.old)).machine.ledger in
-            none_out self.new.mem ≡ false → (none_out self.old.mem ≡ false) ⊎ IsCrowded self.old left }
-        ensures keeps { Keeps W.SwapStore self.old self.new }
+        ensures leaves { let left = (told_by who (machine_of W.held self.old)).machine.ledger in
+            Leaves W.SwapStore self.old self.new ((none_out self.old.mem ≡ false) ⊎ IsCrowded self.old left) result }
     {
         let thread = self.thread(who);
         if ends_thread(who, thread.pc) {
@@ -172,11 +161,8 @@ impl<W: SwapStore> Kernel<W> {
         requires who { actor (machine_of W.held self.old) ≡ Some who }
         requires ends { (t : ModelThread) → (machine_of W.held self.old).threads who ≡ Some t → (ends_thread who t.pc ≡ true)
             × (reg_at t.regs 10 ≡ a0) }
-        ensures whole { IsWhole W.SwapStore self.new }
-        ensures usable { IsUsable self.new }
         ensures acts { Acts W.held self.old self.new who None }
-        ensures none { PutsNoneOut self.old self.new }
-        ensures keeps { Keeps W.SwapStore self.old self.new }
+        ensures stays { StaysUsable W.SwapStore self.old self.new }
     {
         self.begin(who);
         self.end_thread(a0);
@@ -190,11 +176,8 @@ impl<W: SwapStore> Kernel<W> {
         requires who { actor (machine_of W.held self.old) ≡ Some who }
         requires ends { (t : ModelThread) → (machine_of W.held self.old).threads who ≡ Some t → (ends_thread who t.pc ≡ false)
             × (ends_handler who t.pc ≡ true) }
-        ensures whole { IsWhole W.SwapStore self.new }
-        ensures usable { IsUsable self.new }
         ensures acts { Acts W.held self.old self.new who None }
-        ensures none { PutsNoneOut self.old self.new }
-        ensures keeps { Keeps W.SwapStore self.old self.new }
+        ensures stays { StaysUsable W.SwapStore self.old self.new }
     {
         self.begin(who);
         self.end_handler();

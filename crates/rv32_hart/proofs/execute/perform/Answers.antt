@@ -28,13 +28,12 @@ returns-in-Branch-clause-executes g c =
     (λ mem. effect_of mem c.args.regs.now c.args.pc c.args.operation) (branches c.args.regs.now c.args.pc c.in-Branch.offset c.in-Branch.taken) _ (λ byte. rw c.in-Branch.is refl)
     (rw (to_z-of_z w32 c.in-Branch.offset fits) at (c.branch-pc.ensures.executes c.args.regs.now))
 
-pub returns-in-Branch-clause-cause : goal.returns-in-Branch-clause-cause
-returns-in-Branch-clause-cause g c =
-    not_failed (Rose (g.U.UserMemory.faults c.args.mem.now) (g.U.UserMemory.faults c.args.mem.now)) (c.branch-pc.ensures.executes c.args.regs.now)
-
-pub returns-in-Branch-clause-unfit : goal.returns-in-Branch-clause-unfit
-returns-in-Branch-clause-unfit g c =
-    not_failed (¬ g.U.UserMemory.fit c.args.mem.now) (c.branch-pc.ensures.executes c.args.regs.now)
+pub returns-in-Branch-clause-uses : goal.returns-in-Branch-clause-uses
+returns-in-Branch-clause-uses g c =
+    let executed = c.branch-pc.ensures.executes c.args.regs.now in
+    let unfit = not_failed (¬ g.U.UserMemory.fit c.args.mem.now) executed in
+    let cause = not_failed (Rose (g.U.UserMemory.faults c.args.mem.now) (g.U.UserMemory.faults c.args.mem.now)) executed in
+    search (rules, unfit, cause)
 
 pub returns-in-Store-clause-executes : goal.returns-in-Store-clause-executes
 returns-in-Store-clause-executes g c = rw c.in-Store.is (c.store.ensures.executes c.args.regs.now)

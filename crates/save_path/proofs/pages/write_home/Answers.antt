@@ -1,4 +1,4 @@
-use Rattle.std.proofs.Common.{◌∙◌, sym, ap}
+use Rattle.std.proofs.Common.{◌∙◌, sym, ap, rules}
 use Rattle.xk_parts.proofs.LawfulLemmas.{sound_lawful}
 use Rattle.ledger_model.specs.Ledger.{Ledger}
 use Rattle.suspend_image.specs.Sheets.{appended}
@@ -21,9 +21,10 @@ returns-in_default-clause-text g c =
     (none_seen (processes c.args.mem.now) l c.place_at-home.result c.at.result (sym c.at.ensures)
     (λ r console info is. c.in_default.not-Own r console info is)))
 
-pub returns-in_default-clause-brings : goal.returns-in_default-clause-brings
-returns-in_default-clause-brings g c = brings_none g.W.SwapStore
-    c.args.mem.now c.requires.sound
+pub returns-in_default-clause-reads : goal.returns-in_default-clause-reads
+returns-in_default-clause-reads g c =
+    let brings = brings_none g.W.SwapStore c.args.mem.now c.requires.sound in
+    search (rules, brings)
 
 pub write_page_words-requires : goal.write_page_words-requires
 write_page_words-requires g c = row_room c.args.sheet.now c.page_row.result c.requires.room
@@ -56,8 +57,8 @@ returns-in_ok-write_contents-clause-text g c =
     (sound_lawful g.W.SwapStore c.args.mem.now c.requires.sound))
     ∙ told_by (processes c.args.mem.now) (processes c.write_contents.new.mem) l (ledger g.W.SwapStore.held c.write_contents.new.mem) _ c.reading_place.result _
     (brings_procs g.W.SwapStore c.args.mem.now
-    c.write_contents.new.mem wrote.brings)
-    (wrote.brings.whole means) c.reading_place.ensures wrote.bytes.page)
+    c.write_contents.new.mem wrote.reads.brings)
+    (wrote.reads.brings.whole means) c.reading_place.ensures wrote.bytes.page)
 
 pub returns-else-not-console-clause-text : goal.returns-else-not-console-clause-text
 returns-else-not-console-clause-text g c =
@@ -68,5 +69,7 @@ returns-else-not-console-clause-text g c =
     c.args.sheet.now c.write_page_words.new.sheet c.if-not-console.false
     (c.write_page_words.ensures ∙ ap (λ (row : PageRow). appended (page_words row) c.args.sheet.now) c.page_row.ensures)
 
-pub returns-else-not-console-clause-brings : goal.returns-else-not-console-clause-brings
-returns-else-not-console-clause-brings g c = brings_none g.W.SwapStore c.args.mem.now c.requires.sound
+pub returns-else-not-console-clause-reads : goal.returns-else-not-console-clause-reads
+returns-else-not-console-clause-reads g c =
+    let brings = brings_none g.W.SwapStore c.args.mem.now c.requires.sound in
+    search (rules, brings)

@@ -1,4 +1,4 @@
-use Rattle.std.proofs.Common.{◌∙◌, None, sym, ap}
+use Rattle.std.proofs.Common.{◌∙◌, None, sym, ap, rules}
 use Rattle.xk_parts.proofs.LawfulLemmas.{sound_lawful}
 use Rattle.ledger_model.specs.Ledger.{Ledger}
 use Rattle.suspend_image.specs.Sheets.{appended}
@@ -19,9 +19,10 @@ returns-in_default-clause-text g c =
     (sound_lawful g.W.SwapStore c.args.mem.now c.requires.sound) (sym c.at.ensures)
     (λ kind number is. c.in_default.not-Lent kind None number is)))
 
-pub returns-in_default-clause-brings : goal.returns-in_default-clause-brings
-returns-in_default-clause-brings g c = brings_none g.W.SwapStore
-    c.args.mem.now c.requires.sound
+pub returns-in_default-clause-reads : goal.returns-in_default-clause-reads
+returns-in_default-clause-reads g c =
+    let brings = brings_none g.W.SwapStore c.args.mem.now c.requires.sound in
+    search (rules, brings)
 
 pub returns-then-is_some-clause-text : goal.returns-then-is_some-clause-text
 returns-then-is_some-clause-text g c =
@@ -32,8 +33,10 @@ returns-then-is_some-clause-text g c =
     (sound_lawful g.W.SwapStore c.args.mem.now c.requires.sound) (sym c.at.ensures)
     (lent_by c.at.result c.in-Lent.kind c.in-Lent.lender c.in-Lent.message c.in-Lent.is (sym c.is_some.ensures ∙ c.if-is_some.true))))
 
-pub returns-then-is_some-clause-brings : goal.returns-then-is_some-clause-brings
-returns-then-is_some-clause-brings g c = brings_none g.W.SwapStore c.args.mem.now c.requires.sound
+pub returns-then-is_some-clause-reads : goal.returns-then-is_some-clause-reads
+returns-then-is_some-clause-reads g c =
+    let brings = brings_none g.W.SwapStore c.args.mem.now c.requires.sound in
+    search (rules, brings)
 
 pub write_orphan_words-requires : goal.write_orphan_words-requires
 write_orphan_words-requires g c = orphan_row_room c.args.sheet.now c.orphan_row.result c.requires.room
@@ -64,5 +67,5 @@ returns-clause-text g c =
     (sound_lawful g.W.SwapStore c.args.mem.now c.requires.sound))
     ∙ told_at (processes c.args.mem.now) (processes c.write_contents.new.mem) l (ledger g.W.SwapStore.held c.write_contents.new.mem) c.place_at-place.result _
     (brings_procs g.W.SwapStore c.args.mem.now
-    c.write_contents.new.mem wrote.brings)
-    (wrote.brings.whole means) wrote.bytes.page)
+    c.write_contents.new.mem wrote.reads.brings)
+    (wrote.reads.brings.whole means) wrote.bytes.page)

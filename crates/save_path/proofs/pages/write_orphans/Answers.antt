@@ -1,4 +1,4 @@
-use Rattle.std.proofs.Common.{◌∙◌, ◌+◌, ◌*◌, length, refl, ap, arith}
+use Rattle.std.proofs.Common.{◌∙◌, ◌+◌, ◌*◌, length, refl, ap, arith, rules}
 use Rattle.ledger_model.specs.Ledger.{Ledger}
 use Rattle.suspend_image.specs.Sheets.{appended}
 use Rattle.suspend_image.specs.Words.{word}
@@ -30,7 +30,7 @@ pub next_used-number-requires-in-places-clause-end : goal.next_used-number-requi
 next_used-number-requires-in-places-clause-end g c =
     let made = c.requires.made in
     let all = brings_procs g.W.SwapStore c.args.mem.now c.write_orphan.new.mem
-    (brings_both g.W.SwapStore c.args.mem.now c.places.mem c.write_orphan.new.mem c.places.invariant.brings c.in_ok-write_orphan.ensures.brings) in
+    (brings_both g.W.SwapStore c.args.mem.now c.places.mem c.write_orphan.new.mem c.places.invariant.brings c.in_ok-write_orphan.ensures.reads.brings) in
     omega arith
 
 pub write_orphan-requires-clause-room : goal.write_orphan-requires-clause-room
@@ -47,7 +47,7 @@ places-preserved g c =
     let new : Ledger = ledger g.W.SwapStore.held c.write_orphan.new.mem in
     let brought = c.places.invariant.brings in
     let wrote = c.in_ok-write_orphan.ensures in
-    let brings = brings_both g.W.SwapStore c.args.mem.now c.places.mem c.write_orphan.new.mem brought wrote.brings in
+    let brings = brings_both g.W.SwapStore c.args.mem.now c.places.mem c.write_orphan.new.mem brought wrote.reads.brings in
     let texts = texts_counted (MeansBytes g.W.SwapStore c.args.mem.now)
     (MeansBytes g.W.SwapStore c.places.mem)
     (orphan_at old) (orphan_at now) c.places.number (appended (word 0) c.args.sheet.now) c.places.sheet c.write_orphan.new.sheet
@@ -56,7 +56,7 @@ places-preserved g c =
     (λ means. ap (λ (l : Ledger). orphan_at l c.places.number) (brought.whole means)) (c.from.ensures ∙ byte_is c.in_ok-write_orphan.field-0) in
     record {
       brings = brings;
-      usable = wrote.usable;
+      usable = wrote.reads.usable;
       texts = texts_gap (MeansBytes g.W.SwapStore c.args.mem.now) (orphan_at old) (orphan_at new) (c.places.number + 1) c.next_used-number-in-places.result
           (appended (word 0) c.args.sheet.now) c.write_orphan.new.sheet (c.places.many + c.from.result) texts c.next_used-number-in-places.ensures.low
           (orphan_alike new old brings.rights)
@@ -64,17 +64,17 @@ places-preserved g c =
       high = c.next_used-number-in-places.ensures.high;
     }
 
-pub returns-in_err-write_orphan-clause-brings : goal.returns-in_err-write_orphan-clause-brings
-returns-in_err-write_orphan-clause-brings g c =
-    brings_both g.W.SwapStore c.args.mem.now c.places.mem
-    c.write_orphan.new.mem c.places.invariant.brings c.write_orphan.ensures.brings
-
-pub returns-in_err-write_orphan-clause-cause : goal.returns-in_err-write_orphan-clause-cause
-returns-in_err-write_orphan-clause-cause g c =
-    on_err c.from_residual.result _
-    (rose_later (g.W.SwapStore.faults (store_of c.args.mem.now)) (g.W.SwapStore.faults (store_of c.places.mem))
-    (g.W.SwapStore.faults (store_of c.write_orphan.new.mem))
-    c.places.invariant.brings.store.never_falls c.in_err-write_orphan.ensures.cause)
+pub returns-in_err-write_orphan-clause-reads : goal.returns-in_err-write_orphan-clause-reads
+returns-in_err-write_orphan-clause-reads g c = record {
+  brings = brings_both g.W.SwapStore c.args.mem.now c.places.mem
+      c.write_orphan.new.mem c.places.invariant.brings c.write_orphan.ensures.reads.brings;
+  usable = search rules;
+  failed = search rules;
+  cause = on_err c.from_residual.result _
+      (rose_later (g.W.SwapStore.faults (store_of c.args.mem.now)) (g.W.SwapStore.faults (store_of c.places.mem))
+      (g.W.SwapStore.faults (store_of c.write_orphan.new.mem))
+      c.places.invariant.brings.store.never_falls c.in_err-write_orphan.ensures.reads.cause);
+}
 
 pub returns-clause-texts : goal.returns-clause-texts
 returns-clause-texts g c =

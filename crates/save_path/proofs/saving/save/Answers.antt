@@ -37,7 +37,7 @@ finish_state-requires-clause-begun g c =
     let k = given_of c.args.mem.now c.args.threads.now c.args.procs.now c.args.servers.now c.args.queues.now c.args.claims.now c.args.numbers in
     let now = with_memory c.write_pages.new.mem k in
     sheet_begun (given_machine g.W.SwapStore.held now) c.args.sheet.now c.begin_state.new.sheet c.write_front.new.sheet c.write_pages.new.sheet _ c.begin_state.ensures
-    (front_brought g.W.SwapStore k c.write_pages.new.mem c.in_ok-write_pages.ensures.brings c.begin_state.new.sheet c.write_front.new.sheet _ c.write_front.ensures.parts)
+    (front_brought g.W.SwapStore k c.write_pages.new.mem c.in_ok-write_pages.ensures.reads.brings c.begin_state.new.sheet c.write_front.new.sheet _ c.write_front.ensures.parts)
     (pages_given g.W.SwapStore.held now c.write_front.new.sheet c.write_pages.new.sheet c.in_ok-write_pages.ensures.pages)
 
 pub finish_state-requires-clause-few : goal.finish_state-requires-clause-few
@@ -48,7 +48,7 @@ returns-clause-saved g c =
     let k = given_of c.args.mem.now c.args.threads.now c.args.procs.now c.args.servers.now c.args.queues.now c.args.claims.now c.args.numbers in
     let now = with_memory c.write_pages.new.mem k in
     sheet_is (given_machine g.W.SwapStore.held now) c.args.sheet.now c.begin_state.new.sheet c.write_front.new.sheet c.write_pages.new.sheet _ c.begin_state.ensures
-    (front_brought g.W.SwapStore k c.write_pages.new.mem c.in_ok-write_pages.ensures.brings c.begin_state.new.sheet c.write_front.new.sheet _ c.write_front.ensures.parts)
+    (front_brought g.W.SwapStore k c.write_pages.new.mem c.in_ok-write_pages.ensures.reads.brings c.begin_state.new.sheet c.write_front.new.sheet _ c.write_front.ensures.parts)
     (pages_given g.W.SwapStore.held now c.write_front.new.sheet c.write_pages.new.sheet c.in_ok-write_pages.ensures.pages)
     c.finish_state.new.sheet c.finish_state.ensures
 
@@ -57,7 +57,7 @@ returns-clause-alike g c =
     let k = given_of c.args.mem.now c.args.threads.now c.args.procs.now c.args.servers.now c.args.queues.now c.args.claims.now c.args.numbers in
     let now = with_memory c.write_pages.new.mem k in
     sheet_saved (given_machine g.W.SwapStore.held now) c.args.sheet.now c.begin_state.new.sheet c.write_front.new.sheet c.write_pages.new.sheet _ c.begin_state.ensures
-    (front_brought g.W.SwapStore k c.write_pages.new.mem c.in_ok-write_pages.ensures.brings c.begin_state.new.sheet c.write_front.new.sheet _ c.write_front.ensures.parts)
+    (front_brought g.W.SwapStore k c.write_pages.new.mem c.in_ok-write_pages.ensures.reads.brings c.begin_state.new.sheet c.write_front.new.sheet _ c.write_front.ensures.parts)
     (pages_given g.W.SwapStore.held now c.write_front.new.sheet c.write_pages.new.sheet c.in_ok-write_pages.ensures.pages)
     c.finish_state.new.sheet c.finish_state.ensures
 
@@ -66,7 +66,7 @@ returns-clause-room g c =
     let k = given_of c.args.mem.now c.args.threads.now c.args.procs.now c.args.servers.now c.args.queues.now c.args.claims.now c.args.numbers in
     let now = with_memory c.write_pages.new.mem k in
     room_finished (given_machine g.W.SwapStore.held now) c.args.sheet.now c.begin_state.new.sheet c.write_front.new.sheet c.write_pages.new.sheet _ c.begin_state.ensures
-    (front_brought g.W.SwapStore k c.write_pages.new.mem c.in_ok-write_pages.ensures.brings c.begin_state.new.sheet c.write_front.new.sheet _ c.write_front.ensures.parts)
+    (front_brought g.W.SwapStore k c.write_pages.new.mem c.in_ok-write_pages.ensures.reads.brings c.begin_state.new.sheet c.write_front.new.sheet _ c.write_front.ensures.parts)
     (pages_given g.W.SwapStore.held now c.write_front.new.sheet c.write_pages.new.sheet c.in_ok-write_pages.ensures.pages)
     c.finish_state.new.sheet c.finish_state.ensures
 
@@ -74,7 +74,7 @@ pub returns-clause-saveable : goal.returns-clause-saveable
 returns-clause-saveable g c =
     let k = given_of c.args.mem.now c.args.threads.now c.args.procs.now c.args.servers.now c.args.queues.now c.args.claims.now c.args.numbers in
     let mem = c.write_pages.new.mem in
-    let brings = c.in_ok-write_pages.ensures.brings in
+    let brings = c.in_ok-write_pages.ensures.reads.brings in
     saveable_of g.W.SwapStore (with_memory mem k) brings.sound (matched_brought g.W.SwapStore k mem brings c.requires.matched)
     (fit_brought g.W.SwapStore k mem brings c.write_front.ensures.fit) c.pages_are_whole.ensures
     (subst (λ (n : ℕ). IsTrue (is_thread_id n c.args.numbers.cursor)) (sym (brings_procs g.W.SwapStore c.args.mem.now mem brings)) c.requires.cursor)
@@ -86,9 +86,9 @@ returns-in_err-write_pages-clause-room g c =
 pub returns-clause-machine : goal.returns-clause-machine
 returns-clause-machine g c =
     let k = given_of c.args.mem.now c.args.threads.now c.args.procs.now c.args.servers.now c.args.queues.now c.args.claims.now c.args.numbers in
-    comes_brought g.W.SwapStore k c.write_pages.new.mem c.in_ok-write_pages.ensures.brings
+    comes_brought g.W.SwapStore k c.write_pages.new.mem c.in_ok-write_pages.ensures.reads.brings
 
 pub returns-in_err-write_pages-clause-machine : goal.returns-in_err-write_pages-clause-machine
 returns-in_err-write_pages-clause-machine g c =
     let k = given_of c.args.mem.now c.args.threads.now c.args.procs.now c.args.servers.now c.args.queues.now c.args.claims.now c.args.numbers in
-    comes_brought g.W.SwapStore k c.write_pages.new.mem c.in_err-write_pages.ensures.brings
+    comes_brought g.W.SwapStore k c.write_pages.new.mem c.in_err-write_pages.ensures.reads.brings

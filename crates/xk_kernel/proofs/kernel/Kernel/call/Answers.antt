@@ -1,5 +1,5 @@
 -- A record tells of the call first.
-use Rattle.std.proofs.Common.{ap, subst}
+use Rattle.std.proofs.Common.{ap, subst, ◌∙◌}
 use Rattle.std.proofs.lemmas.Result.{on_err_weaker, on_ok_weaker}
 use Rattle.machine_model.specs.Calling.Calls.{call}
 use Rattle.machine_model.specs.State.Changes.{call_settled}
@@ -51,10 +51,16 @@ returns-in-Err-clause-tells g c =
     (subst (λ o. Tells g.W.SwapStore.held (record k { log = c.push.new.self }) c.refuse.new.self (call_settled m o))
     (unhandled m c.args.words c.in-Err.error c.in-Err.ensures.no_other (c.in-Err.ensures.unhandled.0 c.in-Err.ensures.no_other)) c.refuse.ensures.tells))
 
-pub returns-in-Ok-clause-crowded : goal.returns-in-Ok-clause-crowded
+pub returns-in-Ok-clause-leaves : goal.returns-in-Ok-clause-leaves
 unfolding machine_of
-returns-in-Ok-clause-crowded g c = on_err_weaker c.call_asked.result (λ crowds. crowds) c.call_asked.ensures.crowded
-
-pub returns-in-Ok-clause-near : goal.returns-in-Ok-clause-near
-unfolding machine_of
-returns-in-Ok-clause-near g c = c.call_asked.ensures.near
+returns-in-Ok-clause-leaves g c =
+    let leaves = c.call_asked.ensures.leaves in
+    record {
+      whole = leaves.whole;
+      usable = leaves.usable;
+      keeps = record { size = leaves.keeps.size; store = leaves.keeps.store; room = leaves.keeps.room ∙ ap (λ (log : LogState). log.room) c.push.ensures };
+      failed = leaves.failed;
+      cause = leaves.cause;
+      crowded = on_err_weaker c.call_asked.result (λ crowds. crowds) leaves.crowded;
+      near = leaves.near;
+    }

@@ -46,7 +46,7 @@ returns-in-Ok-Answered-clause-tells g c =
     (call_settled m (call m c.args.words)) (Reply who words ∷ [])
     (answered_is m serves.target words (call m c.args.words)
     (ap (λ (x : Machine). is_thread_id x.processes who) (sym serves.comes.alike)
-    ∙ ap (λ s. is_thread_id s.procs who) c.in_ok-outcome.ensures.keeps.size ∙ c.requires.calls.whole.cursor) serves.is)
+    ∙ ap (λ s. is_thread_id s.procs who) c.in_ok-outcome.ensures.leaves.keeps.size ∙ c.requires.calls.whole.cursor) serves.is)
     (c.answer.ensures.tells.machine ∙ (λ i. give_answers (answer_to who (c.reply_words.ensures i)) (c.pass.ensures.machine i)))
     (c.answer.ensures.tells.log ∙ (λ i. log_with (Reply who (c.reply_words.ensures i) ∷ []) ((c.pass.ensures.log ∙ c.in_ok-outcome.ensures.log) i)))
 

@@ -1,4 +1,4 @@
-use Rattle.std.proofs.Common.{◌≤◌, ◌/◌, arith}
+use Rattle.std.proofs.Common.{◌≤◌, ◌/◌, arith, rules}
 use Rattle.vm_memory.specs.Memory.{ledger, processes}
 use Rattle.xk_kernel.proofs.Memory.HeapLemmas.{decrease_done, decrease_lent, decrease_too_many, heap_told, heap_within, whole_with_parts}
 use Rattle.xk_kernel.proofs.Memory.KeptLoanLemmas.{clear_keeps}
@@ -16,13 +16,15 @@ overflow_add-heap g c =
     (heap_told g.W.SwapStore c.args.self.now c.requires.whole c.heap-heap.result c.heap-heap.ensures) c.requires.matched in
     omega (arith, within)
 
-pub returns-in-Ok-clause-whole : goal.returns-in-Ok-clause-whole
-returns-in-Ok-clause-whole g c =
+pub returns-in-Ok-clause-stays : goal.returns-in-Ok-clause-stays
+returns-in-Ok-clause-stays g c =
+    let whole =
     whole_with_parts g.W.SwapStore c.args.self.now c.requires.whole c.clear_run.new.self c.set_heap.new.self
     c.clear_run.ensures.size c.clear_run.ensures.sound
     (clear_keeps (processes c.args.self.now.mem) c.clear_run.result c.caller_place-first.result (c.args.bytes / 4096) (ledger g.W.SwapStore.held c.args.self.now.mem)
     (ledger g.W.SwapStore.held c.clear_run.new.self) c.clear_run.ensures.answer c.clear_run.ensures.ledger)
-    c.set_heap.ensures.count
+    c.set_heap.ensures.count in
+    search (rules, whole)
 
 pub returns-in-Ok-clause-outcome : goal.returns-in-Ok-clause-outcome
 returns-in-Ok-clause-outcome g c =

@@ -1,5 +1,5 @@
 -- The server is destroyed, or the caller refused.
-use Rattle.std.proofs.Common.{ap, subst, sym, ◌∙◌}
+use Rattle.std.proofs.Common.{ap, subst, sym, ◌∙◌, rules}
 use Rattle.std.specs.Option.{option_map}
 use Rattle.kill_path.specs.Rows.{destroy_row}
 use Rattle.machine_model.specs.State.Changes.{Outcome, call_settled}
@@ -20,12 +20,14 @@ pub destroy-requires-clause-sound : goal.destroy-requires-clause-sound
 destroy-requires-clause-sound g c =
     parts_sound g.W.SwapStore c.args.self.now c.requires.calls.whole c.requires.calls.matched
 
-pub returns-in-Some-clause-whole : goal.returns-in-Some-clause-whole
-returns-in-Some-clause-whole g c =
+pub returns-in-Some-clause-stays : goal.returns-in-Some-clause-stays
+returns-in-Some-clause-stays g c =
     let k = c.args.self.now in
     let new = parts_of c.destroy.new.mem c.destroy.new.threads c.destroy.new.servers c.destroy.new.queues c.destroy.new.log in
+    let whole =
     new_whole g.W.SwapStore k new k.next c.requires.calls.whole c.destroy.ensures.sound c.destroy.ensures.mem.size
-    (served_room (c.destroy.ensures.row (machine_of g.W.SwapStore.held k)))
+    (served_room (c.destroy.ensures.row (machine_of g.W.SwapStore.held k))) in
+    search (rules, whole)
 
 pub returns-in-Some-clause-tells : goal.returns-in-Some-clause-tells
 returns-in-Some-clause-tells g c =

@@ -89,7 +89,7 @@ pub returns-then-alive-clause-sound : goal.returns-then-alive-clause-sound
 returns-then-alive-clause-sound g c =
     let alive = lives g.W.SwapStore c.args.self.now c.args.self.now c.requires.sound c.requires.usable c.in-Kill.pid c.alive.result c.alive.ensures ∙ c.if-alive.true in
     became_sound g.W.SwapStore c.args.self.now c.kill.new.self c.requires.sound c.requires.usable
-    (killed c.in-Kill.pid (machine_of g.W.SwapStore.held c.args.self.now)) c.kill.ensures.whole
+    (killed c.in-Kill.pid (machine_of g.W.SwapStore.held c.args.self.now)) c.kill.ensures.stays.whole
     (killed_done g.W.SwapStore c.args.self.now c.kill.new.self c.requires.sound c.requires.usable c.in-Kill.pid c.clear.new.self alive c.clear.ensures
     c.kill.ensures.tells)
     (kill_matched g.W.SwapStore c.args.self.now c.args.self.now c.requires.sound c.requires.usable c.in-Kill.pid)
@@ -102,7 +102,7 @@ returns-then-alive-clause-does g c =
     c.kill.ensures.tells)
 
 pub returns-then-alive-clause-tie : goal.returns-then-alive-clause-tie
-returns-then-alive-clause-tie g c = sound-tied g.W.SwapStore c.kill.new.self.mem c.kill.ensures.whole.mem
+returns-then-alive-clause-tie g c = sound-tied g.W.SwapStore c.kill.new.self.mem c.kill.ensures.stays.whole.mem
 
 pub returns-then-alive-clause-store : goal.returns-then-alive-clause-store
 returns-then-alive-clause-store g c = c.kill.ensures.store

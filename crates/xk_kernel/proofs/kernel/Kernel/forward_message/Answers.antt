@@ -1,5 +1,5 @@
 -- A message is forwarded, or the caller refused.
-use Rattle.std.proofs.Common.{◌∙◌}
+use Rattle.std.proofs.Common.{◌∙◌, rules}
 use Rattle.machine_model.specs.State.Changes.{Refused}
 use Rattle.send_path.proofs.Taken.{over, parts_of}
 use Rattle.xk_parts.specs.Parts.{machine_at}
@@ -17,12 +17,14 @@ pub forward-forwarded-requires-clause-sound : goal.forward-forwarded-requires-cl
 forward-forwarded-requires-clause-sound g c =
     parts_sound_over g.W.SwapStore c.args.self.now c.requires.calls.whole c.requires.calls.matched
 
-pub returns-in-Ok-clause-whole : goal.returns-in-Ok-clause-whole
-returns-in-Ok-clause-whole g c =
+pub returns-in-Ok-clause-stays : goal.returns-in-Ok-clause-stays
+returns-in-Ok-clause-stays g c =
     let k = c.args.self.now in
     let new = parts_of c.forward-forwarded.new.mem c.forward-forwarded.new.threads k.servers c.forward-forwarded.new.queues c.forward-forwarded.new.log in
+    let whole =
     new_whole g.W.SwapStore k new k.next c.requires.calls.whole (sound_without g.W.SwapStore k new c.in-Ok.ensures.sound) c.in-Ok.ensures.mem.size
-    (served_room (c.in-Ok.ensures.row (machine_of g.W.SwapStore.held k)))
+    (served_room (c.in-Ok.ensures.row (machine_of g.W.SwapStore.held k))) in
+    search (rules, whole)
 
 pub returns-in-Ok-clause-tells : goal.returns-in-Ok-clause-tells
 returns-in-Ok-clause-tells g c =

@@ -1,5 +1,5 @@
 -- The death over the parts is the machine's, and its end is told last.
-use Rattle.std.proofs.Common.{sym, ap, ◌∙◌, arith}
+use Rattle.std.proofs.Common.{sym, ap, ◌∙◌, arith, rules}
 use Rattle.machine_model.specs.Stepping.Interrupts.{disarmed_if}
 use Rattle.send_path.proofs.Taken.{parts_of}
 use Rattle.kill_path.proofs.TakenAll.{DeathParts}
@@ -22,13 +22,20 @@ push-requires g c =
     room_left g.W.SwapStore c.args.self.now c.requires.whole c.args.pid new
     c.kill.ensures.death c.kill.ensures.sound.0 c.kill.ensures.sound.1 c.kill.ensures.mem c.end_claim.new.timer disarmed (omega arith)
 
-pub returns-clause-whole : goal.returns-clause-whole
-returns-clause-whole g c =
+pub returns-clause-stays : goal.returns-clause-stays
+returns-clause-stays g c =
     let new : DeathParts _ = record { parts = parts_of c.kill.new.mem c.kill.new.threads c.kill.new.servers c.kill.new.queues c.kill.new.log; procs = c.kill.new.procs; claims = c.kill.new.claims } in
     let disarmed = c.end_claim.ensures ∙ ap (λ b. disarmed_if b c.args.self.now.timer) c.has_timer-timed.ensures in
-    pushed_whole g.W.SwapStore (with_all c.args.self.now c.end_claim.new.timer new) c.push.new.self
-    (dead_whole g.W.SwapStore c.args.self.now c.requires.whole c.args.pid new
-    c.kill.ensures.death c.kill.ensures.sound.0 c.kill.ensures.sound.1 c.kill.ensures.mem c.end_claim.new.timer disarmed) (ap (λ log. log.room) c.push.ensures)
+    let keeps = dead_keeps g.W.SwapStore c.args.self.now c.requires.whole c.args.pid new
+    c.kill.ensures.death c.kill.ensures.sound.0 c.kill.ensures.sound.1 c.kill.ensures.mem c.end_claim.new.timer disarmed in
+    record {
+      whole = pushed_whole g.W.SwapStore (with_all c.args.self.now c.end_claim.new.timer new) c.push.new.self
+          (dead_whole g.W.SwapStore c.args.self.now c.requires.whole c.args.pid new
+          c.kill.ensures.death c.kill.ensures.sound.0 c.kill.ensures.sound.1 c.kill.ensures.mem c.end_claim.new.timer disarmed) (ap (λ log. log.room) c.push.ensures);
+      usable = search rules;
+      none = search rules;
+      keeps = record { size = keeps.size; store = keeps.store; room = ap (λ log. log.room) c.push.ensures ∙ keeps.room };
+    }
 
 pub returns-clause-tells : goal.returns-clause-tells
 returns-clause-tells g c =
@@ -36,14 +43,6 @@ returns-clause-tells g c =
     let disarmed = c.end_claim.ensures ∙ ap (λ b. disarmed_if b c.args.self.now.timer) c.has_timer-timed.ensures in
     death_tells g.W.SwapStore c.args.self.now c.requires.whole c.args.pid new
     c.kill.ensures.death c.kill.ensures.sound.0 c.kill.ensures.sound.1 c.kill.ensures.mem c.end_claim.new.timer disarmed c.push.new.self c.push.ensures
-
-pub returns-clause-keeps : goal.returns-clause-keeps
-returns-clause-keeps g c =
-    let new : DeathParts _ = record { parts = parts_of c.kill.new.mem c.kill.new.threads c.kill.new.servers c.kill.new.queues c.kill.new.log; procs = c.kill.new.procs; claims = c.kill.new.claims } in
-    let disarmed = c.end_claim.ensures ∙ ap (λ b. disarmed_if b c.args.self.now.timer) c.has_timer-timed.ensures in
-    let keeps = dead_keeps g.W.SwapStore c.args.self.now c.requires.whole c.args.pid new
-    c.kill.ensures.death c.kill.ensures.sound.0 c.kill.ensures.sound.1 c.kill.ensures.mem c.end_claim.new.timer disarmed in
-    record { size = keeps.size; store = keeps.store; room = ap (λ log. log.room) c.push.ensures ∙ keeps.room }
 
 pub returns-clause-store : goal.returns-clause-store
 returns-clause-store g c = c.kill.ensures.mem.store

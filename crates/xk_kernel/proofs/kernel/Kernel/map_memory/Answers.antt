@@ -1,4 +1,4 @@
-use Rattle.std.proofs.Common.{◌+◌, ◌≤◌, ◌/◌, arith, sym, ◌∙◌}
+use Rattle.std.proofs.Common.{◌+◌, ◌≤◌, ◌/◌, arith, sym, ◌∙◌, rules}
 use Rattle.std.specs.Prelude.{Err}
 use Rattle.std.proofs.lemmas.Bool.{eq-eqb, ne_eqb}
 use Rattle.ledger_model.specs.Ledger.{pages}
@@ -22,12 +22,14 @@ overflow_mul-result g c =
     console_low (processes c.args.self.now.mem) (ledger g.W.SwapStore.held c.args.self.now.mem) c.args.self.now.cursor.pid c.page_asked-at.result c.in-Ok.first c.in-Ok.ensures.answer in
     omega (arith, low)
 
-pub returns-in-Ok-clause-whole : goal.returns-in-Ok-clause-whole
-returns-in-Ok-clause-whole g c =
+pub returns-in-Ok-clause-leaves : goal.returns-in-Ok-clause-leaves
+returns-in-Ok-clause-leaves g c =
+    let whole =
     whole_with_mem g.W.SwapStore c.args.self.now c.make_console.new.self c.requires.whole c.make_console.ensures.size c.make_console.ensures.sound
     (make_console_keeps g.W.SwapStore c.args.self.now.mem c.requires.whole.mem c.args.self.now.cursor.pid c.page_asked-at.result c.in-Some.right.w
     c.make_console.result (ledger g.W.SwapStore.held c.make_console.new.self) (caller_process g.W.SwapStore c.args.self.now c.requires.whole)
-    c.make_console.ensures.answer c.make_console.ensures.ledger)
+    c.make_console.ensures.answer c.make_console.ensures.ledger) in
+    search (rules, whole)
 
 pub returns-in-Ok-clause-outcome : goal.returns-in-Ok-clause-outcome
 returns-in-Ok-clause-outcome g c =
@@ -53,11 +55,22 @@ overflow_mul-result-in-Ok-Ok g c =
     (c.args.size / 4096) c.in-Ok-Ok.first (rw c.in-Ok-Ok.field-0-is at c.in-Ok-Ok.ensures.answer) in
     omega (arith, low)
 
-pub returns-in-Ok-Ok-clause-whole : goal.returns-in-Ok-Ok-clause-whole
-returns-in-Ok-Ok-clause-whole g c =
-    whole_with_mem g.W.SwapStore c.args.self.now c.make.new.self c.requires.whole c.make.ensures.size c.make.ensures.sound
-    (made_loans g.W.SwapStore.held c.args.self.now Map c.page_asked-at.result (c.args.size / 4096) c.in-Some.right (caller_process g.W.SwapStore c.args.self.now c.requires.whole) c.in-Ok-Ok.field-0
-    (ledger g.W.SwapStore.held c.make.new.self) c.in-Ok-Ok.ensures.answer c.in-Ok-Ok.ensures.rights)
+pub returns-in-Ok-Ok-clause-leaves : goal.returns-in-Ok-Ok-clause-leaves
+returns-in-Ok-Ok-clause-leaves g c = record {
+  whole = whole_with_mem g.W.SwapStore c.args.self.now c.make.new.self c.requires.whole c.make.ensures.size c.make.ensures.sound
+      (made_loans g.W.SwapStore.held c.args.self.now Map c.page_asked-at.result (c.args.size / 4096) c.in-Some.right (caller_process g.W.SwapStore c.args.self.now c.requires.whole) c.in-Ok-Ok.field-0
+      (ledger g.W.SwapStore.held c.make.new.self) c.in-Ok-Ok.ensures.answer c.in-Ok-Ok.ensures.rights);
+  usable = search rules;
+  keeps = search rules;
+  failed = tt;
+  cause = tt;
+  crowded = tt;
+  near = λ none out. map_crowds g.W.SwapStore.held c.args.self.now c.args.phys c.args.virt c.args.size c.args.flags c.in-Some.right (sym c.is_bad_range.ensures ∙ c.if-is_bad_range.false) (right_told (are_bad_flags c.args.flags) (right_of c.args.flags) c.in-Some.right (sym c.in-Some.is ∙ c.right_asked.ensures))
+      (eq-eqb c.args.phys 0 c.if-phys-ne0.false) (ne_eqb c.args.phys 4026531840 c.if-phys-eq-CONSOLE_ADDRESS.false)
+      c.in-Ok-Ok.first (caller_process g.W.SwapStore c.args.self.now c.requires.whole) (rw (c.page_asked-at.ensures, c.in-Ok-Ok.field-0-is) at c.in-Ok-Ok.ensures.answer)
+      (too_many (frames_for_pages c.args.self.now.mem) (pages (processes c.args.self.now.mem) (ledger g.W.SwapStore.held c.args.self.now.mem) + c.args.size / 4096) (none_out c.make.new.self)
+      (λ few. c.make.ensures.near few none) out);
+}
 
 pub returns-in-Ok-Ok-clause-outcome : goal.returns-in-Ok-Ok-clause-outcome
 returns-in-Ok-Ok-clause-outcome g c =
@@ -68,14 +81,6 @@ returns-in-Ok-Ok-clause-outcome g c =
     (rw c.in-Ok-Ok.field-0-is at c.in-Ok-Ok.ensures.rights)
     (rw c.in-Ok-Ok.field-0-is at c.in-Ok-Ok.ensures.whole)
 
-pub returns-in-Ok-Ok-clause-near : goal.returns-in-Ok-Ok-clause-near
-returns-in-Ok-Ok-clause-near g c none out =
-    map_crowds g.W.SwapStore.held c.args.self.now c.args.phys c.args.virt c.args.size c.args.flags c.in-Some.right (sym c.is_bad_range.ensures ∙ c.if-is_bad_range.false) (right_told (are_bad_flags c.args.flags) (right_of c.args.flags) c.in-Some.right (sym c.in-Some.is ∙ c.right_asked.ensures))
-    (eq-eqb c.args.phys 0 c.if-phys-ne0.false) (ne_eqb c.args.phys 4026531840 c.if-phys-eq-CONSOLE_ADDRESS.false)
-    c.in-Ok-Ok.first (caller_process g.W.SwapStore c.args.self.now c.requires.whole) (rw (c.page_asked-at.ensures, c.in-Ok-Ok.field-0-is) at c.in-Ok-Ok.ensures.answer)
-    (too_many (frames_for_pages c.args.self.now.mem) (pages (processes c.args.self.now.mem) (ledger g.W.SwapStore.held c.args.self.now.mem) + c.args.size / 4096) (none_out c.make.new.self)
-    (λ few. c.make.ensures.near few none) out)
-
 pub returns-in-Ok-Err-clause-outcome : goal.returns-in-Ok-Err-clause-outcome
 returns-in-Ok-Err-clause-outcome g c =
     serves_by _ _ _ (Err c.in-Ok-Err.error)
@@ -83,26 +88,25 @@ returns-in-Ok-Err-clause-outcome g c =
     (eq-eqb c.args.phys 0 c.if-phys-ne0.false) (ne_eqb c.args.phys 4026531840 c.if-phys-eq-CONSOLE_ADDRESS.false)
     c.in-Ok-Err.error (rw (c.page_asked-at.ensures, c.in-Ok-Err.field-0-is) at c.in-Ok-Err.ensures.answer))
 
-pub returns-in-Err-make-clause-whole : goal.returns-in-Err-make-clause-whole
-returns-in-Err-make-clause-whole g c =
-    whole_with_mem g.W.SwapStore c.args.self.now c.make.new.self c.requires.whole c.make.ensures.size c.make.ensures.sound
-    (made_first_keeps (processes c.args.self.now.mem) (capacity_of c.args.self.now.mem) c.args.self.now.cursor.pid Map c.page_asked-at.result (c.args.size / 4096)
-    c.in-Some.right (ledger g.W.SwapStore.held c.args.self.now.mem) (ledger g.W.SwapStore.held c.make.new.self)
-    (caller_process g.W.SwapStore c.args.self.now c.requires.whole) c.in-Err-make.ensures.partial)
-
-pub returns-in-Err-make-clause-crowded : goal.returns-in-Err-make-clause-crowded
-returns-in-Err-make-clause-crowded g c =
+pub returns-in-Err-make-clause-leaves : goal.returns-in-Err-make-clause-leaves
+returns-in-Err-make-clause-leaves g c =
+    let crowded =
     map_crowds g.W.SwapStore.held c.args.self.now c.args.phys c.args.virt c.args.size c.args.flags c.in-Some.right (sym c.is_bad_range.ensures ∙ c.if-is_bad_range.false) (right_told (are_bad_flags c.args.flags) (right_of c.args.flags) c.in-Some.right (sym c.in-Some.is ∙ c.right_asked.ensures))
     (eq-eqb c.args.phys 0 c.if-phys-ne0.false) (ne_eqb c.args.phys 4026531840 c.if-phys-eq-CONSOLE_ADDRESS.false)
     c.in-Err-make.ensures.partial.first (caller_process g.W.SwapStore c.args.self.now c.requires.whole) (sym (rw c.page_asked-at.ensures at c.in-Err-make.ensures.partial.served))
-    c.in-Err-make.ensures.full
-
-pub returns-in-Err-make-clause-near : goal.returns-in-Err-make-clause-near
-returns-in-Err-make-clause-near g c none out =
-    map_crowds g.W.SwapStore.held c.args.self.now c.args.phys c.args.virt c.args.size c.args.flags c.in-Some.right (sym c.is_bad_range.ensures ∙ c.if-is_bad_range.false) (right_told (are_bad_flags c.args.flags) (right_of c.args.flags) c.in-Some.right (sym c.in-Some.is ∙ c.right_asked.ensures))
-    (eq-eqb c.args.phys 0 c.if-phys-ne0.false) (ne_eqb c.args.phys 4026531840 c.if-phys-eq-CONSOLE_ADDRESS.false)
-    c.in-Err-make.ensures.partial.first (caller_process g.W.SwapStore c.args.self.now c.requires.whole) (sym (rw c.page_asked-at.ensures at c.in-Err-make.ensures.partial.served))
-    c.in-Err-make.ensures.full
+    c.in-Err-make.ensures.full in
+    record {
+      whole = whole_with_mem g.W.SwapStore c.args.self.now c.make.new.self c.requires.whole c.make.ensures.size c.make.ensures.sound
+          (made_first_keeps (processes c.args.self.now.mem) (capacity_of c.args.self.now.mem) c.args.self.now.cursor.pid Map c.page_asked-at.result (c.args.size / 4096)
+          c.in-Some.right (ledger g.W.SwapStore.held c.args.self.now.mem) (ledger g.W.SwapStore.held c.make.new.self)
+          (caller_process g.W.SwapStore c.args.self.now c.requires.whole) c.in-Err-make.ensures.partial);
+      usable = tt;
+      keeps = search rules;
+      failed = search rules;
+      cause = search rules;
+      crowded = crowded;
+      near = λ none out. crowded;
+    }
 
 pub returns-then-size-ne-PAGE_SIZE-clause-outcome : goal.returns-then-size-ne-PAGE_SIZE-clause-outcome
 returns-then-size-ne-PAGE_SIZE-clause-outcome g c =

@@ -1,5 +1,5 @@
 -- A message is received or waited for, or the caller refused.
-use Rattle.std.proofs.Common.{refl, ◌∙◌}
+use Rattle.std.proofs.Common.{refl, ◌∙◌, rules}
 use Rattle.ledger_model.specs.Loans.{loans}
 use Rattle.kill_path.proofs.FitLemmas.{open_loans}
 use Rattle.machine_model.specs.State.Changes.{Refused}
@@ -48,11 +48,13 @@ refuse-requires-clause-ready g c =
     left_ready g.W.SwapStore.held k (with_new k new k.next) (left_without_memory k new.tables c.in-Err.ensures.row.0)
     c.requires.calls.ready
 
-pub returns-in-Ok-clause-whole : goal.returns-in-Ok-clause-whole
-returns-in-Ok-clause-whole g c =
+pub returns-in-Ok-clause-stays : goal.returns-in-Ok-clause-stays
+returns-in-Ok-clause-stays g c =
     let k = c.args.self.now in
+    let whole =
     new_whole g.W.SwapStore k (left g c) k.next c.requires.calls.whole (left_sound g c) refl
-    (served_room (c.in-Ok.ensures.row (machine_of g.W.SwapStore.held k)))
+    (served_room (c.in-Ok.ensures.row (machine_of g.W.SwapStore.held k))) in
+    search (rules, whole)
 
 pub returns-in-Ok-clause-tells : goal.returns-in-Ok-clause-tells
 returns-in-Ok-clause-tells g c =

@@ -4,18 +4,17 @@ use Rattle.machine_model.specs.Runs.Matched.{Matched}
 use Rattle.machine_model.specs.State.Machine.{Thread as ModelThread}
 use Rattle.machine_model.specs.State.Order.{ready_at}
 use Rattle.machine_model.specs.Stepping.Reservations.{reserved_by}
-use Rattle.machine_model.specs.Stepping.Step.{performed}
 use Rattle.machine_model.specs.State.Threads.{put_thread}
 use Rattle.machine_model.specs.State.Views.{memory_of}
 use Rattle.rv32_atomics.specs.Performing.{Core}
-use Rattle.rv32_hart.specs.Running.{IfFailed, UnlessFailed, ran_of}
+use Rattle.rv32_hart.specs.Running.{IfFailed, UnlessFailed}
 use Rattle.thread_table.specs.Lending.{with_thread}
 use Rattle.thread_table.specs.declared.thread.Thread.{Thread}
 use Rattle.vm_memory.proofs.Using.UserKeepLemmas.{rest_same}
 use Rattle.vm_memory.specs.Bytes.{MeansBytesOver, none_out}
 use Rattle.vm_memory.specs.Memory.{IsUsable, has_failed, store_of}
 use Rattle.xk_base.specs.Outside.{Rose}
-use Rattle.xk_kernel.specs.Running.{RunsSome, machine_after}
+use Rattle.xk_kernel.specs.Running.{RunsKnown, RunsSome}
 use Rattle.xk_kernel.specs.Sound.{IsWhole, Keeps}
 use Rattle.xk_parts.specs.Shown.{thread_of}
 use Rattle.xk_kernel.specs.State.{machine_of}
@@ -37,66 +36,38 @@ run_over-user-requires-clause-aligned g c = c.requires.aligned (thread_of c.thre
 pub run_over-user-requires-clause-same : goal.run_over-user-requires-clause-same
 run_over-user-requires-clause-same g c = (refl, refl, rest_same g.W.SwapStore c.args.who.pid c.args.self.now.mem)
 
-pub returns-in-Ecall-clause-whole : goal.returns-in-Ecall-clause-whole
-returns-in-Ecall-clause-whole g c =
+pub returns-in-Ecall-clause-leaves : goal.returns-in-Ecall-clause-leaves
+returns-in-Ecall-clause-leaves g c =
     let back : c.self-1.given.0 ≡ c.run_over-user.result.mem.now = given_back _ _ _ c.self-1.given c.run_over-user.ensures.rest.0 in
-    subst (λ mem. IsWhole g.W.SwapStore (record (with_both mem c.run_over-user.new.timer c.args.self.now) { threads = with_thread c.args.self.now.threads c.args.who c.run_over-user.new.thread })) (sym back)
-    (whole_lent g.W.SwapStore (with_both c.run_over-user.result.mem.now c.run_over-user.new.timer c.args.self.now)
-    (with_thread c.args.self.now.threads c.args.who c.run_over-user.new.thread) (c.thread_mut-thread.ensures.count _)
-    (whole_ran g.W.SwapStore c.args.self.now c.run_over-user.result.mem.now c.run_over-user.new.timer c.requires.whole c.args.who.pid c.run_over-user.ensures.rest.2))
+    let kept : Keeps g.W.SwapStore c.args.self.now (with_memory c.self-1.given.0 c.args.self.now) =
+    subst (λ mem. Keeps g.W.SwapStore c.args.self.now (with_memory mem c.args.self.now)) (sym back) (keeps_with g.W.SwapStore c.args.self.now c.run_over-user.result.mem.now c.requires.whole c.args.who.pid c.run_over-user.ensures.rest.2) in
+    record {
+      whole = subst (λ mem. IsWhole g.W.SwapStore (record (with_both mem c.run_over-user.new.timer c.args.self.now) { threads = with_thread c.args.self.now.threads c.args.who c.run_over-user.new.thread })) (sym back)
+          (whole_lent g.W.SwapStore (with_both c.run_over-user.result.mem.now c.run_over-user.new.timer c.args.self.now)
+          (with_thread c.args.self.now.threads c.args.who c.run_over-user.new.thread) (c.thread_mut-thread.ensures.count _)
+          (whole_ran g.W.SwapStore c.args.self.now c.run_over-user.result.mem.now c.run_over-user.new.timer c.requires.whole c.args.who.pid c.run_over-user.ensures.rest.2));
+      usable = subst (λ mem. UnlessFailed c.run_over-user.new.ran (IsUsable mem)) (sym back)
+          (usable_unless g.W.SwapStore.slot_count c.run_over-user.result.mem.now c.run_over-user.new.ran c.run_over-user.ensures.fit);
+      keeps = record { size = kept.size; store = kept.store; room = kept.room };
+      failed = subst (λ mem. IfFailed c.run_over-user.new.ran (has_failed mem ≡ true)) (sym back)
+          (has_failed_now g.W.SwapStore c.args.self.now c.run_over-user.result.mem.now c.args.who.pid c.requires.whole c.requires.usable c.run_over-user.ensures.rest.2 c.run_over-user.new.ran c.run_over-user.ensures.unfit);
+      cause = subst (λ mem. IfFailed c.run_over-user.new.ran (Rose (g.W.SwapStore.faults (store_of c.args.self.now.mem)) (g.W.SwapStore.faults (store_of mem)))) (sym back)
+          (c.run_over-user.ensures.cause);
+      out = was_out g.W.SwapStore c.args.self.now c.run_over-user.result.mem.now c.args.who.pid c.requires.whole c.requires.usable c.run_over-user.ensures.rest.2 c.run_over-user.new.ran c.run_over-user.ensures.unfit;
+      none = λ none. subst (λ mem. none_out mem ≡ true) (sym back) (c.run_over-user.ensures.rest.2.none none);
+      matched = subst (λ mem. Matched (machine_of g.W.SwapStore.held (record (with_both mem c.run_over-user.new.timer c.args.self.now) { threads = with_thread c.args.self.now.threads c.args.who c.run_over-user.new.thread }))) (sym back)
+          (ran_matched g.W.SwapStore c.args.self.now c.run_over-user.result.mem.now c.args.who c.requires.matched c.run_over-user.ensures.rest.2 c.has_timer-on.result c.run_over-user.new.timer c.has_timer-on.ensures c.run_over-user.ensures.timer c.thread_mut-thread.result.now
+          c.run_over-user.new.thread c.thread_mut-thread.ensures.value _ (c.thread_mut-thread.ensures.writes _) (ap (λ (thread : Thread). thread.state) c.run_over-user.ensures.thread)
+          (subst (λ (thread : Thread). thread.pc % 4 ≡ 0) (sym c.run_over-user.ensures.thread) (c.requires.aligned (thread_of c.thread_mut-thread.result.now) (thread_found g.W.SwapStore.held c.args.self.now c.args.who c.thread_mut-thread.result.now c.thread_mut-thread.ensures.value))));
+      ready = subst (λ mem. ready_at (machine_of g.W.SwapStore.held (record (with_both mem c.run_over-user.new.timer c.args.self.now) { threads = with_thread c.args.self.now.threads c.args.who c.run_over-user.new.thread })) c.args.who ≡ ready_at (machine_of g.W.SwapStore.held c.args.self.now) c.args.who) (sym back)
+          (ran_ready g.W.SwapStore c.args.self.now c.run_over-user.result.mem.now c.args.who c.requires.matched c.run_over-user.ensures.rest.2 c.has_timer-on.result c.run_over-user.new.timer c.has_timer-on.ensures c.run_over-user.ensures.timer c.thread_mut-thread.result.now
+          c.run_over-user.new.thread c.thread_mut-thread.ensures.value _ (c.thread_mut-thread.ensures.writes _) (ap (λ (thread : Thread). thread.state) c.run_over-user.ensures.thread));
+      steps = refl;
+      log = refl;
+    }
 
-pub returns-in-Ecall-clause-usable : goal.returns-in-Ecall-clause-usable
-returns-in-Ecall-clause-usable g c =
-    let back : c.self-1.given.0 ≡ c.run_over-user.result.mem.now = given_back _ _ _ c.self-1.given c.run_over-user.ensures.rest.0 in
-    subst (λ mem. UnlessFailed c.run_over-user.new.ran (IsUsable mem)) (sym back)
-    (usable_unless g.W.SwapStore.slot_count c.run_over-user.result.mem.now c.run_over-user.new.ran c.run_over-user.ensures.fit)
-
-pub returns-in-Ecall-clause-failed : goal.returns-in-Ecall-clause-failed
-returns-in-Ecall-clause-failed g c =
-    let back : c.self-1.given.0 ≡ c.run_over-user.result.mem.now = given_back _ _ _ c.self-1.given c.run_over-user.ensures.rest.0 in
-    subst (λ mem. IfFailed c.run_over-user.new.ran (has_failed mem ≡ true)) (sym back)
-    (has_failed_now g.W.SwapStore c.args.self.now c.run_over-user.result.mem.now c.args.who.pid c.requires.whole c.requires.usable c.run_over-user.ensures.rest.2 c.run_over-user.new.ran c.run_over-user.ensures.unfit)
-
-pub returns-in-Ecall-clause-cause : goal.returns-in-Ecall-clause-cause
-returns-in-Ecall-clause-cause g c =
-    let back : c.self-1.given.0 ≡ c.run_over-user.result.mem.now = given_back _ _ _ c.self-1.given c.run_over-user.ensures.rest.0 in
-    subst (λ mem. IfFailed c.run_over-user.new.ran (Rose (g.W.SwapStore.faults (store_of c.args.self.now.mem)) (g.W.SwapStore.faults (store_of mem)))) (sym back)
-    (c.run_over-user.ensures.cause)
-
-pub returns-in-Ecall-clause-out : goal.returns-in-Ecall-clause-out
-returns-in-Ecall-clause-out g c =
-    was_out g.W.SwapStore c.args.self.now c.run_over-user.result.mem.now c.args.who.pid c.requires.whole c.requires.usable c.run_over-user.ensures.rest.2 c.run_over-user.new.ran c.run_over-user.ensures.unfit
-
-pub returns-in-Ecall-clause-answer : goal.returns-in-Ecall-clause-answer
-returns-in-Ecall-clause-answer g c =
-    let back : c.self-1.given.0 ≡ c.run_over-user.result.mem.now = given_back _ _ _ c.self-1.given c.run_over-user.ensures.rest.0 in
-    λ known.
-    unless_failed c.run_over-user.new.ran _ (λ done.
-    let over : MeansBytesOver g.W.SwapStore c.args.self.now.mem c.run_over-user.result.mem.now = subst (λ mem. MeansBytesOver g.W.SwapStore c.args.self.now.mem mem) back known in
-    let run : HasRun g.W.SwapStore.held c.args.self.now c.run_over-user.result.mem.now c.run_over-user.new.timer c.args.who.pid
-    (memory_of (machine_of g.W.SwapStore.held c.args.self.now) c.args.who.pid)
-    (record {
-      regs = c.thread_mut-thread.result.now.regs;
-      reserved = reserved_by c.args.who
-          (machine_of g.W.SwapStore.held c.args.self.now).reserved;
-    })
-    (record {
-      regs = c.run_over-user.new.thread.regs;
-      reserved = c.run_over-user.new.reserved;
-    }) c.thread_mut-thread.result.now.pc c.run_over-user.new.ran =
-    has_run g.W.SwapStore
-    c.args.self.now c.run_over-user.result.mem.now c.args.who.pid c.run_over-user.result.pid c.run_over-user.ensures.rest.1 c.requires.whole c.run_over-user.ensures.rest.2 over
-    c.has_timer-on.result c.run_over-user.new.timer (memory_of (machine_of g.W.SwapStore.held c.args.self.now) c.args.who.pid)
-    (timed_seen g.W.SwapStore.held c.args.self.now c.args.who.pid c.has_timer-on.result c.has_timer-on.ensures c.requires.matched) c.run_over-user.ensures.timer
-    (record { regs = c.thread_mut-thread.result.now.regs; reserved = c.args.reserved.now }) (record { regs = c.run_over-user.new.thread.regs; reserved = c.run_over-user.new.reserved })
-    (record { regs = c.thread_mut-thread.result.now.regs; reserved = reserved_by c.args.who (machine_of g.W.SwapStore.held c.args.self.now).reserved }) c.thread_mut-thread.result.now.pc c.run_over-user.new.ran
-    (ap (λ (reserved : Option ℕ). record { regs = c.thread_mut-thread.result.now.regs; reserved = reserved }) c.requires.reserved) c.run_over-user.ensures.performs done in
-    of_thread ((machine_of g.W.SwapStore.held c.args.self.now).threads c.args.who) (thread_of c.thread_mut-thread.result.now) (thread_found g.W.SwapStore.held c.args.self.now c.args.who c.thread_mut-thread.result.now c.thread_mut-thread.ensures.value)
-    (λ t. c.run_over-user.new.ran ≡ ran_of (performed (machine_of g.W.SwapStore.held c.args.self.now) c.args.who t).executed)
-    (run.answered))
-
-pub returns-in-Ecall-clause-machine : goal.returns-in-Ecall-clause-machine
-returns-in-Ecall-clause-machine g c =
+pub returns-in-Ecall-clause-performs : goal.returns-in-Ecall-clause-performs
+returns-in-Ecall-clause-performs g c =
     let back : c.self-1.given.0 ≡ c.run_over-user.result.mem.now = given_back _ _ _ c.self-1.given c.run_over-user.ensures.rest.0 in
     λ known.
     unless_failed c.run_over-user.new.ran _ (λ done.
@@ -120,50 +91,28 @@ returns-in-Ecall-clause-machine g c =
     (record { regs = c.thread_mut-thread.result.now.regs; reserved = reserved_by c.args.who (machine_of g.W.SwapStore.held c.args.self.now).reserved }) c.thread_mut-thread.result.now.pc c.run_over-user.new.ran
     (ap (λ (reserved : Option ℕ). record { regs = c.thread_mut-thread.result.now.regs; reserved = reserved }) c.requires.reserved) c.run_over-user.ensures.performs done in
     of_thread ((machine_of g.W.SwapStore.held c.args.self.now).threads c.args.who) (thread_of c.thread_mut-thread.result.now) (thread_found g.W.SwapStore.held c.args.self.now c.args.who c.thread_mut-thread.result.now c.thread_mut-thread.ensures.value)
-    (λ t. machine_of g.W.SwapStore.held (record (with_both c.self-1.given.0 c.run_over-user.new.timer c.args.self.now) { threads = with_thread c.args.self.now.threads c.args.who c.run_over-user.new.thread }) ≡ machine_after c.args.who (machine_of g.W.SwapStore.held c.args.self.now) (performed (machine_of g.W.SwapStore.held c.args.self.now) c.args.who t).executed)
-    ((λ i. machine_of g.W.SwapStore.held (record (with_both (back i) c.run_over-user.new.timer c.args.self.now) { threads = with_thread c.args.self.now.threads c.args.who (c.run_over-user.ensures.thread i) }))
-    ∙ machine_put g.W.SwapStore.held (with_both c.run_over-user.result.mem.now c.run_over-user.new.timer c.args.self.now) _ c.args.who _ (c.thread_mut-thread.ensures.writes _)
-    ∙ ap (λ regs. put_thread c.args.who (Some (record (thread_of c.thread_mut-thread.result.now) { regs = regs })) (machine_of g.W.SwapStore.held (with_both c.run_over-user.result.mem.now c.run_over-user.new.timer c.args.self.now)))
-    (registers_stay c.run_over-user.new.ran c.thread_mut-thread.result.now.regs c.run_over-user.new.thread.regs c.in-Ecall.is c.run_over-user.ensures.leaves)
-    ∙ put_same (machine_of g.W.SwapStore.held (with_both c.run_over-user.result.mem.now c.run_over-user.new.timer c.args.self.now)) c.args.who (thread_of c.thread_mut-thread.result.now) (thread_found g.W.SwapStore.held (with_both c.run_over-user.result.mem.now c.run_over-user.new.timer c.args.self.now) c.args.who c.thread_mut-thread.result.now c.thread_mut-thread.ensures.value)
-    ∙ machine_stays g.W.SwapStore.held c.args.self.now c.run_over-user.result.mem.now c.run_over-user.new.timer c.args.who
+    (λ t. RunsKnown (machine_of g.W.SwapStore.held c.args.self.now)
+    (machine_of g.W.SwapStore.held (record (with_both c.self-1.given.0 c.run_over-user.new.timer c.args.self.now) { threads = with_thread c.args.self.now.threads c.args.who c.run_over-user.new.thread }))
+    c.args.who t c.run_over-user.new.reserved c.run_over-user.new.ran)
     (record {
-      regs = c.thread_mut-thread.result.now.regs;
-      reserved = reserved_by c.args.who
-          (machine_of g.W.SwapStore.held c.args.self.now).reserved;
-    })
-    (record {
-      regs = c.run_over-user.new.thread.regs;
-      reserved = c.run_over-user.new.reserved;
-    }) c.thread_mut-thread.result.now.pc c.run_over-user.new.ran run c.in-Ecall.is))
-
-pub returns-in-Ecall-clause-reserved : goal.returns-in-Ecall-clause-reserved
-returns-in-Ecall-clause-reserved g c =
-    let back : c.self-1.given.0 ≡ c.run_over-user.result.mem.now = given_back _ _ _ c.self-1.given c.run_over-user.ensures.rest.0 in
-    λ known.
-    unless_failed c.run_over-user.new.ran _ (λ done.
-    let over : MeansBytesOver g.W.SwapStore c.args.self.now.mem c.run_over-user.result.mem.now = subst (λ mem. MeansBytesOver g.W.SwapStore c.args.self.now.mem mem) back known in
-    let run : HasRun g.W.SwapStore.held c.args.self.now c.run_over-user.result.mem.now c.run_over-user.new.timer c.args.who.pid
-    (memory_of (machine_of g.W.SwapStore.held c.args.self.now) c.args.who.pid)
-    (record {
-      regs = c.thread_mut-thread.result.now.regs;
-      reserved = reserved_by c.args.who
-          (machine_of g.W.SwapStore.held c.args.self.now).reserved;
-    })
-    (record {
-      regs = c.run_over-user.new.thread.regs;
-      reserved = c.run_over-user.new.reserved;
-    }) c.thread_mut-thread.result.now.pc c.run_over-user.new.ran =
-    has_run g.W.SwapStore
-    c.args.self.now c.run_over-user.result.mem.now c.args.who.pid c.run_over-user.result.pid c.run_over-user.ensures.rest.1 c.requires.whole c.run_over-user.ensures.rest.2 over
-    c.has_timer-on.result c.run_over-user.new.timer (memory_of (machine_of g.W.SwapStore.held c.args.self.now) c.args.who.pid)
-    (timed_seen g.W.SwapStore.held c.args.self.now c.args.who.pid c.has_timer-on.result c.has_timer-on.ensures c.requires.matched) c.run_over-user.ensures.timer
-    (record { regs = c.thread_mut-thread.result.now.regs; reserved = c.args.reserved.now }) (record { regs = c.run_over-user.new.thread.regs; reserved = c.run_over-user.new.reserved })
-    (record { regs = c.thread_mut-thread.result.now.regs; reserved = reserved_by c.args.who (machine_of g.W.SwapStore.held c.args.self.now).reserved }) c.thread_mut-thread.result.now.pc c.run_over-user.new.ran
-    (ap (λ (reserved : Option ℕ). record { regs = c.thread_mut-thread.result.now.regs; reserved = reserved }) c.requires.reserved) c.run_over-user.ensures.performs done in
-    of_thread ((machine_of g.W.SwapStore.held c.args.self.now).threads c.args.who) (thread_of c.thread_mut-thread.result.now) (thread_found g.W.SwapStore.held c.args.self.now c.args.who c.thread_mut-thread.result.now c.thread_mut-thread.ensures.value)
-    (λ t. c.run_over-user.new.reserved ≡ (performed (machine_of g.W.SwapStore.held c.args.self.now) c.args.who t).reserved)
-    (run.reserved))
+      answered = run.answered;
+      machine = ((λ i. machine_of g.W.SwapStore.held (record (with_both (back i) c.run_over-user.new.timer c.args.self.now) { threads = with_thread c.args.self.now.threads c.args.who (c.run_over-user.ensures.thread i) }))
+          ∙ machine_put g.W.SwapStore.held (with_both c.run_over-user.result.mem.now c.run_over-user.new.timer c.args.self.now) _ c.args.who _ (c.thread_mut-thread.ensures.writes _)
+          ∙ ap (λ regs. put_thread c.args.who (Some (record (thread_of c.thread_mut-thread.result.now) { regs = regs })) (machine_of g.W.SwapStore.held (with_both c.run_over-user.result.mem.now c.run_over-user.new.timer c.args.self.now)))
+          (registers_stay c.run_over-user.new.ran c.thread_mut-thread.result.now.regs c.run_over-user.new.thread.regs c.in-Ecall.is c.run_over-user.ensures.leaves)
+          ∙ put_same (machine_of g.W.SwapStore.held (with_both c.run_over-user.result.mem.now c.run_over-user.new.timer c.args.self.now)) c.args.who (thread_of c.thread_mut-thread.result.now) (thread_found g.W.SwapStore.held (with_both c.run_over-user.result.mem.now c.run_over-user.new.timer c.args.self.now) c.args.who c.thread_mut-thread.result.now c.thread_mut-thread.ensures.value)
+          ∙ machine_stays g.W.SwapStore.held c.args.self.now c.run_over-user.result.mem.now c.run_over-user.new.timer c.args.who
+          (record {
+            regs = c.thread_mut-thread.result.now.regs;
+            reserved = reserved_by c.args.who
+                (machine_of g.W.SwapStore.held c.args.self.now).reserved;
+          })
+          (record {
+            regs = c.run_over-user.new.thread.regs;
+            reserved = c.run_over-user.new.reserved;
+          }) c.thread_mut-thread.result.now.pc c.run_over-user.new.ran run c.in-Ecall.is);
+      reserved = run.reserved;
+    }))
 
 pub returns-in-Ecall-clause-some : goal.returns-in-Ecall-clause-some
 returns-in-Ecall-clause-some g c =
@@ -192,70 +141,43 @@ returns-in-Ecall-clause-some g c =
     ∙ put_same (machine_of held (with_both mem timer old)) who t (thread_found held (with_both mem timer old) who c.thread_mut-thread.result.now c.thread_mut-thread.ensures.value))
     c.in-Ecall.is))
 
-pub returns-in-Ecall-clause-matched : goal.returns-in-Ecall-clause-matched
-returns-in-Ecall-clause-matched g c =
-    let back : c.self-1.given.0 ≡ c.run_over-user.result.mem.now = given_back _ _ _ c.self-1.given c.run_over-user.ensures.rest.0 in
-    subst (λ mem. Matched (machine_of g.W.SwapStore.held (record (with_both mem c.run_over-user.new.timer c.args.self.now) { threads = with_thread c.args.self.now.threads c.args.who c.run_over-user.new.thread }))) (sym back)
-    (ran_matched g.W.SwapStore c.args.self.now c.run_over-user.result.mem.now c.args.who c.requires.matched c.run_over-user.ensures.rest.2 c.has_timer-on.result c.run_over-user.new.timer c.has_timer-on.ensures c.run_over-user.ensures.timer c.thread_mut-thread.result.now
-    c.run_over-user.new.thread c.thread_mut-thread.ensures.value _ (c.thread_mut-thread.ensures.writes _) (ap (λ (thread : Thread). thread.state) c.run_over-user.ensures.thread)
-    (subst (λ (thread : Thread). thread.pc % 4 ≡ 0) (sym c.run_over-user.ensures.thread) (c.requires.aligned (thread_of c.thread_mut-thread.result.now) (thread_found g.W.SwapStore.held c.args.self.now c.args.who c.thread_mut-thread.result.now c.thread_mut-thread.ensures.value))))
-
-pub returns-in-Ecall-clause-ready : goal.returns-in-Ecall-clause-ready
-returns-in-Ecall-clause-ready g c =
-    let back : c.self-1.given.0 ≡ c.run_over-user.result.mem.now = given_back _ _ _ c.self-1.given c.run_over-user.ensures.rest.0 in
-    subst (λ mem. ready_at (machine_of g.W.SwapStore.held (record (with_both mem c.run_over-user.new.timer c.args.self.now) { threads = with_thread c.args.self.now.threads c.args.who c.run_over-user.new.thread })) c.args.who ≡ ready_at (machine_of g.W.SwapStore.held c.args.self.now) c.args.who) (sym back)
-    (ran_ready g.W.SwapStore c.args.self.now c.run_over-user.result.mem.now c.args.who c.requires.matched c.run_over-user.ensures.rest.2 c.has_timer-on.result c.run_over-user.new.timer c.has_timer-on.ensures c.run_over-user.ensures.timer c.thread_mut-thread.result.now
-    c.run_over-user.new.thread c.thread_mut-thread.ensures.value _ (c.thread_mut-thread.ensures.writes _) (ap (λ (thread : Thread). thread.state) c.run_over-user.ensures.thread))
-
-pub returns-in-Ecall-clause-none : goal.returns-in-Ecall-clause-none
-returns-in-Ecall-clause-none g c =
-    let back : c.self-1.given.0 ≡ c.run_over-user.result.mem.now = given_back _ _ _ c.self-1.given c.run_over-user.ensures.rest.0 in
-    λ none. subst (λ mem. none_out mem ≡ true) (sym back) (c.run_over-user.ensures.rest.2.none none)
-
-pub returns-in-Ecall-clause-keeps : goal.returns-in-Ecall-clause-keeps
-returns-in-Ecall-clause-keeps g c =
+pub returns-in-Next-clause-leaves : goal.returns-in-Next-clause-leaves
+returns-in-Next-clause-leaves g c =
     let back : c.self-1.given.0 ≡ c.run_over-user.result.mem.now = given_back _ _ _ c.self-1.given c.run_over-user.ensures.rest.0 in
     let kept : Keeps g.W.SwapStore c.args.self.now (with_memory c.self-1.given.0 c.args.self.now) =
     subst (λ mem. Keeps g.W.SwapStore c.args.self.now (with_memory mem c.args.self.now)) (sym back) (keeps_with g.W.SwapStore c.args.self.now c.run_over-user.result.mem.now c.requires.whole c.args.who.pid c.run_over-user.ensures.rest.2) in
-    record { size = kept.size; store = kept.store; room = kept.room }
+    record {
+      whole = subst (λ mem. IsWhole g.W.SwapStore (record (with_both mem c.run_over-user.new.timer c.args.self.now) { threads = with_thread c.args.self.now.threads c.args.who (record { pc = c.in-Next.next; regs = c.run_over-user.new.thread.regs; state = c.run_over-user.new.thread.state }) })) (sym back)
+          (whole_lent g.W.SwapStore (with_both c.run_over-user.result.mem.now c.run_over-user.new.timer c.args.self.now)
+          (with_thread c.args.self.now.threads c.args.who
+          (record { pc = c.in-Next.next; regs = c.run_over-user.new.thread.regs; state = c.run_over-user.new.thread.state })) (c.thread_mut-thread.ensures.count _)
+          (whole_ran g.W.SwapStore c.args.self.now c.run_over-user.result.mem.now c.run_over-user.new.timer c.requires.whole c.args.who.pid c.run_over-user.ensures.rest.2));
+      usable = subst (λ mem. UnlessFailed c.in-Next.ran (IsUsable mem)) (sym back)
+          (subst (λ a. UnlessFailed a (IsUsable c.run_over-user.result.mem.now)) (sym c.in-Next.ran-is)
+          (usable_unless g.W.SwapStore.slot_count c.run_over-user.result.mem.now c.run_over-user.new.ran c.run_over-user.ensures.fit));
+      keeps = record { size = kept.size; store = kept.store; room = kept.room };
+      failed = subst (λ mem. IfFailed c.in-Next.ran (has_failed mem ≡ true)) (sym back)
+          (subst (λ a. IfFailed a (has_failed c.run_over-user.result.mem.now ≡ true)) (sym c.in-Next.ran-is)
+          (has_failed_now g.W.SwapStore c.args.self.now c.run_over-user.result.mem.now c.args.who.pid c.requires.whole c.requires.usable c.run_over-user.ensures.rest.2 c.run_over-user.new.ran c.run_over-user.ensures.unfit));
+      cause = subst (λ mem. IfFailed c.in-Next.ran (Rose (g.W.SwapStore.faults (store_of c.args.self.now.mem)) (g.W.SwapStore.faults (store_of mem)))) (sym back)
+          (subst (λ a. IfFailed a (Rose (g.W.SwapStore.faults (store_of c.args.self.now.mem)) (g.W.SwapStore.faults (store_of c.run_over-user.result.mem.now)))) (sym c.in-Next.ran-is)
+          (c.run_over-user.ensures.cause));
+      out = subst (λ a. IfFailed a (none_out c.args.self.now.mem ≡ false)) (sym c.in-Next.ran-is)
+          (was_out g.W.SwapStore c.args.self.now c.run_over-user.result.mem.now c.args.who.pid c.requires.whole c.requires.usable c.run_over-user.ensures.rest.2 c.run_over-user.new.ran c.run_over-user.ensures.unfit);
+      none = λ none. subst (λ mem. none_out mem ≡ true) (sym back) (c.run_over-user.ensures.rest.2.none none);
+      matched = subst (λ mem. Matched (machine_of g.W.SwapStore.held (record (with_both mem c.run_over-user.new.timer c.args.self.now) { threads = with_thread c.args.self.now.threads c.args.who (record { pc = c.in-Next.next; regs = c.run_over-user.new.thread.regs; state = c.run_over-user.new.thread.state }) }))) (sym back)
+          (ran_matched g.W.SwapStore c.args.self.now c.run_over-user.result.mem.now c.args.who c.requires.matched c.run_over-user.ensures.rest.2 c.has_timer-on.result c.run_over-user.new.timer c.has_timer-on.ensures c.run_over-user.ensures.timer c.thread_mut-thread.result.now
+          (record { pc = c.in-Next.next; regs = c.run_over-user.new.thread.regs; state = c.run_over-user.new.thread.state }) c.thread_mut-thread.ensures.value _ (c.thread_mut-thread.ensures.writes _) (ap (λ (thread : Thread). thread.state) c.run_over-user.ensures.thread)
+          (goes_aligned c.run_over-user.new.ran c.in-Next.next c.in-Next.is c.run_over-user.ensures.aligned));
+      ready = subst (λ mem. ready_at (machine_of g.W.SwapStore.held (record (with_both mem c.run_over-user.new.timer c.args.self.now) { threads = with_thread c.args.self.now.threads c.args.who (record { pc = c.in-Next.next; regs = c.run_over-user.new.thread.regs; state = c.run_over-user.new.thread.state }) })) c.args.who ≡ ready_at (machine_of g.W.SwapStore.held c.args.self.now) c.args.who) (sym back)
+          (ran_ready g.W.SwapStore c.args.self.now c.run_over-user.result.mem.now c.args.who c.requires.matched c.run_over-user.ensures.rest.2 c.has_timer-on.result c.run_over-user.new.timer c.has_timer-on.ensures c.run_over-user.ensures.timer c.thread_mut-thread.result.now
+          (record { pc = c.in-Next.next; regs = c.run_over-user.new.thread.regs; state = c.run_over-user.new.thread.state }) c.thread_mut-thread.ensures.value _ (c.thread_mut-thread.ensures.writes _) (ap (λ (thread : Thread). thread.state) c.run_over-user.ensures.thread));
+      steps = refl;
+      log = refl;
+    }
 
-pub returns-in-Next-clause-whole : goal.returns-in-Next-clause-whole
-returns-in-Next-clause-whole g c =
-    let back : c.self-1.given.0 ≡ c.run_over-user.result.mem.now = given_back _ _ _ c.self-1.given c.run_over-user.ensures.rest.0 in
-    subst (λ mem. IsWhole g.W.SwapStore (record (with_both mem c.run_over-user.new.timer c.args.self.now) { threads = with_thread c.args.self.now.threads c.args.who (record { pc = c.in-Next.next; regs = c.run_over-user.new.thread.regs; state = c.run_over-user.new.thread.state }) })) (sym back)
-    (whole_lent g.W.SwapStore (with_both c.run_over-user.result.mem.now c.run_over-user.new.timer c.args.self.now)
-    (with_thread c.args.self.now.threads c.args.who
-    (record { pc = c.in-Next.next; regs = c.run_over-user.new.thread.regs; state = c.run_over-user.new.thread.state })) (c.thread_mut-thread.ensures.count _)
-    (whole_ran g.W.SwapStore c.args.self.now c.run_over-user.result.mem.now c.run_over-user.new.timer c.requires.whole c.args.who.pid c.run_over-user.ensures.rest.2))
-
-pub returns-in-Next-clause-usable : goal.returns-in-Next-clause-usable
-returns-in-Next-clause-usable g c =
-    let back : c.self-1.given.0 ≡ c.run_over-user.result.mem.now = given_back _ _ _ c.self-1.given c.run_over-user.ensures.rest.0 in
-    subst (λ mem. UnlessFailed c.in-Next.ran (IsUsable mem)) (sym back)
-    (subst (λ a. UnlessFailed a (IsUsable c.run_over-user.result.mem.now)) (sym c.in-Next.ran-is)
-    (usable_unless g.W.SwapStore.slot_count c.run_over-user.result.mem.now c.run_over-user.new.ran c.run_over-user.ensures.fit))
-
-pub returns-in-Next-clause-failed : goal.returns-in-Next-clause-failed
-returns-in-Next-clause-failed g c =
-    let back : c.self-1.given.0 ≡ c.run_over-user.result.mem.now = given_back _ _ _ c.self-1.given c.run_over-user.ensures.rest.0 in
-    subst (λ mem. IfFailed c.in-Next.ran (has_failed mem ≡ true)) (sym back)
-    (subst (λ a. IfFailed a (has_failed c.run_over-user.result.mem.now ≡ true)) (sym c.in-Next.ran-is)
-    (has_failed_now g.W.SwapStore c.args.self.now c.run_over-user.result.mem.now c.args.who.pid c.requires.whole c.requires.usable c.run_over-user.ensures.rest.2 c.run_over-user.new.ran c.run_over-user.ensures.unfit))
-
-pub returns-in-Next-clause-cause : goal.returns-in-Next-clause-cause
-returns-in-Next-clause-cause g c =
-    let back : c.self-1.given.0 ≡ c.run_over-user.result.mem.now = given_back _ _ _ c.self-1.given c.run_over-user.ensures.rest.0 in
-    subst (λ mem. IfFailed c.in-Next.ran (Rose (g.W.SwapStore.faults (store_of c.args.self.now.mem)) (g.W.SwapStore.faults (store_of mem)))) (sym back)
-    (subst (λ a. IfFailed a (Rose (g.W.SwapStore.faults (store_of c.args.self.now.mem)) (g.W.SwapStore.faults (store_of c.run_over-user.result.mem.now)))) (sym c.in-Next.ran-is)
-    (c.run_over-user.ensures.cause))
-
-pub returns-in-Next-clause-out : goal.returns-in-Next-clause-out
-returns-in-Next-clause-out g c =
-    subst (λ a. IfFailed a (none_out c.args.self.now.mem ≡ false)) (sym c.in-Next.ran-is)
-    (was_out g.W.SwapStore c.args.self.now c.run_over-user.result.mem.now c.args.who.pid c.requires.whole c.requires.usable c.run_over-user.ensures.rest.2 c.run_over-user.new.ran c.run_over-user.ensures.unfit)
-
-pub returns-in-Next-clause-answer : goal.returns-in-Next-clause-answer
-returns-in-Next-clause-answer g c =
+pub returns-in-Next-clause-performs : goal.returns-in-Next-clause-performs
+returns-in-Next-clause-performs g c =
     let back : c.self-1.given.0 ≡ c.run_over-user.result.mem.now = given_back _ _ _ c.self-1.given c.run_over-user.ensures.rest.0 in
     λ known.
     unless_failed c.in-Next.ran _ (λ done.
@@ -279,83 +201,31 @@ returns-in-Next-clause-answer g c =
     (record { regs = c.thread_mut-thread.result.now.regs; reserved = reserved_by c.args.who (machine_of g.W.SwapStore.held c.args.self.now).reserved }) c.thread_mut-thread.result.now.pc c.run_over-user.new.ran
     (ap (λ (reserved : Option ℕ). record { regs = c.thread_mut-thread.result.now.regs; reserved = reserved }) c.requires.reserved) c.run_over-user.ensures.performs (λ e. done (c.in-Next.ran-is ∙ e)) in
     of_thread ((machine_of g.W.SwapStore.held c.args.self.now).threads c.args.who) (thread_of c.thread_mut-thread.result.now) (thread_found g.W.SwapStore.held c.args.self.now c.args.who c.thread_mut-thread.result.now c.thread_mut-thread.ensures.value)
-    (λ t. c.in-Next.ran ≡ ran_of (performed (machine_of g.W.SwapStore.held c.args.self.now) c.args.who t).executed)
-    (c.in-Next.ran-is ∙ run.answered))
-
-pub returns-in-Next-clause-machine : goal.returns-in-Next-clause-machine
-returns-in-Next-clause-machine g c =
-    let back : c.self-1.given.0 ≡ c.run_over-user.result.mem.now = given_back _ _ _ c.self-1.given c.run_over-user.ensures.rest.0 in
-    λ known.
-    unless_failed c.in-Next.ran _ (λ done.
-    let over : MeansBytesOver g.W.SwapStore c.args.self.now.mem c.run_over-user.result.mem.now = subst (λ mem. MeansBytesOver g.W.SwapStore c.args.self.now.mem mem) back known in
-    let run : HasRun g.W.SwapStore.held c.args.self.now c.run_over-user.result.mem.now c.run_over-user.new.timer c.args.who.pid
-    (memory_of (machine_of g.W.SwapStore.held c.args.self.now) c.args.who.pid)
-    (record {
-      regs = c.thread_mut-thread.result.now.regs;
-      reserved = reserved_by c.args.who
-          (machine_of g.W.SwapStore.held c.args.self.now).reserved;
-    })
-    (record {
-      regs = c.run_over-user.new.thread.regs;
-      reserved = c.run_over-user.new.reserved;
-    }) c.thread_mut-thread.result.now.pc c.run_over-user.new.ran =
-    has_run g.W.SwapStore
-    c.args.self.now c.run_over-user.result.mem.now c.args.who.pid c.run_over-user.result.pid c.run_over-user.ensures.rest.1 c.requires.whole c.run_over-user.ensures.rest.2 over
-    c.has_timer-on.result c.run_over-user.new.timer (memory_of (machine_of g.W.SwapStore.held c.args.self.now) c.args.who.pid)
-    (timed_seen g.W.SwapStore.held c.args.self.now c.args.who.pid c.has_timer-on.result c.has_timer-on.ensures c.requires.matched) c.run_over-user.ensures.timer
-    (record { regs = c.thread_mut-thread.result.now.regs; reserved = c.args.reserved.now }) (record { regs = c.run_over-user.new.thread.regs; reserved = c.run_over-user.new.reserved })
-    (record { regs = c.thread_mut-thread.result.now.regs; reserved = reserved_by c.args.who (machine_of g.W.SwapStore.held c.args.self.now).reserved }) c.thread_mut-thread.result.now.pc c.run_over-user.new.ran
-    (ap (λ (reserved : Option ℕ). record { regs = c.thread_mut-thread.result.now.regs; reserved = reserved }) c.requires.reserved) c.run_over-user.ensures.performs (λ e. done (c.in-Next.ran-is ∙ e)) in
-    of_thread ((machine_of g.W.SwapStore.held c.args.self.now).threads c.args.who) (thread_of c.thread_mut-thread.result.now) (thread_found g.W.SwapStore.held c.args.self.now c.args.who c.thread_mut-thread.result.now c.thread_mut-thread.ensures.value)
-    (λ t. machine_of g.W.SwapStore.held
+    (λ t. RunsKnown (machine_of g.W.SwapStore.held c.args.self.now)
+    (machine_of g.W.SwapStore.held
     (record (with_both c.self-1.given.0 c.run_over-user.new.timer c.args.self.now) {
       threads = with_thread c.args.self.now.threads c.args.who
           (record { pc = c.in-Next.next; regs = c.run_over-user.new.thread.regs; state = c.run_over-user.new.thread.state });
-    })
-    ≡ machine_after c.args.who (machine_of g.W.SwapStore.held c.args.self.now)
-    (performed (machine_of g.W.SwapStore.held c.args.self.now) c.args.who t).executed)
-    ((λ i. machine_of g.W.SwapStore.held (record (with_both (back i) c.run_over-user.new.timer c.args.self.now) { threads = with_thread c.args.self.now.threads c.args.who (record { pc = c.in-Next.next; regs = c.run_over-user.new.thread.regs; state = (ap (λ (thread : Thread). thread.state) c.run_over-user.ensures.thread) i }) }))
-    ∙ machine_put g.W.SwapStore.held (with_both c.run_over-user.result.mem.now c.run_over-user.new.timer c.args.self.now) _ c.args.who _ (c.thread_mut-thread.ensures.writes _)
-    ∙ machine_goes_on g.W.SwapStore.held c.args.self.now c.run_over-user.result.mem.now c.run_over-user.new.timer c.args.who
+    }))
+    c.args.who t c.run_over-user.new.reserved c.in-Next.ran)
     (record {
-      regs = c.thread_mut-thread.result.now.regs;
-      reserved = reserved_by c.args.who
-          (machine_of g.W.SwapStore.held c.args.self.now).reserved;
-    })
-    (record {
-      regs = c.run_over-user.new.thread.regs;
-      reserved = c.run_over-user.new.reserved;
-    }) c.thread_mut-thread.result.now.pc c.run_over-user.new.ran run
-    (thread_of c.thread_mut-thread.result.now) c.in-Next.next refl
-    (thread_found g.W.SwapStore.held c.args.self.now c.args.who c.thread_mut-thread.result.now c.thread_mut-thread.ensures.value) c.in-Next.is))
-
-pub returns-in-Next-clause-reserved : goal.returns-in-Next-clause-reserved
-returns-in-Next-clause-reserved g c =
-    let back : c.self-1.given.0 ≡ c.run_over-user.result.mem.now = given_back _ _ _ c.self-1.given c.run_over-user.ensures.rest.0 in
-    λ known.
-    unless_failed c.in-Next.ran _ (λ done.
-    let over : MeansBytesOver g.W.SwapStore c.args.self.now.mem c.run_over-user.result.mem.now = subst (λ mem. MeansBytesOver g.W.SwapStore c.args.self.now.mem mem) back known in
-    let run : HasRun g.W.SwapStore.held c.args.self.now c.run_over-user.result.mem.now c.run_over-user.new.timer c.args.who.pid
-    (memory_of (machine_of g.W.SwapStore.held c.args.self.now) c.args.who.pid)
-    (record {
-      regs = c.thread_mut-thread.result.now.regs;
-      reserved = reserved_by c.args.who
-          (machine_of g.W.SwapStore.held c.args.self.now).reserved;
-    })
-    (record {
-      regs = c.run_over-user.new.thread.regs;
-      reserved = c.run_over-user.new.reserved;
-    }) c.thread_mut-thread.result.now.pc c.run_over-user.new.ran =
-    has_run g.W.SwapStore
-    c.args.self.now c.run_over-user.result.mem.now c.args.who.pid c.run_over-user.result.pid c.run_over-user.ensures.rest.1 c.requires.whole c.run_over-user.ensures.rest.2 over
-    c.has_timer-on.result c.run_over-user.new.timer (memory_of (machine_of g.W.SwapStore.held c.args.self.now) c.args.who.pid)
-    (timed_seen g.W.SwapStore.held c.args.self.now c.args.who.pid c.has_timer-on.result c.has_timer-on.ensures c.requires.matched) c.run_over-user.ensures.timer
-    (record { regs = c.thread_mut-thread.result.now.regs; reserved = c.args.reserved.now }) (record { regs = c.run_over-user.new.thread.regs; reserved = c.run_over-user.new.reserved })
-    (record { regs = c.thread_mut-thread.result.now.regs; reserved = reserved_by c.args.who (machine_of g.W.SwapStore.held c.args.self.now).reserved }) c.thread_mut-thread.result.now.pc c.run_over-user.new.ran
-    (ap (λ (reserved : Option ℕ). record { regs = c.thread_mut-thread.result.now.regs; reserved = reserved }) c.requires.reserved) c.run_over-user.ensures.performs (λ e. done (c.in-Next.ran-is ∙ e)) in
-    of_thread ((machine_of g.W.SwapStore.held c.args.self.now).threads c.args.who) (thread_of c.thread_mut-thread.result.now) (thread_found g.W.SwapStore.held c.args.self.now c.args.who c.thread_mut-thread.result.now c.thread_mut-thread.ensures.value)
-    (λ t. c.run_over-user.new.reserved ≡ (performed (machine_of g.W.SwapStore.held c.args.self.now) c.args.who t).reserved)
-    (run.reserved))
+      answered = c.in-Next.ran-is ∙ run.answered;
+      machine = ((λ i. machine_of g.W.SwapStore.held (record (with_both (back i) c.run_over-user.new.timer c.args.self.now) { threads = with_thread c.args.self.now.threads c.args.who (record { pc = c.in-Next.next; regs = c.run_over-user.new.thread.regs; state = (ap (λ (thread : Thread). thread.state) c.run_over-user.ensures.thread) i }) }))
+          ∙ machine_put g.W.SwapStore.held (with_both c.run_over-user.result.mem.now c.run_over-user.new.timer c.args.self.now) _ c.args.who _ (c.thread_mut-thread.ensures.writes _)
+          ∙ machine_goes_on g.W.SwapStore.held c.args.self.now c.run_over-user.result.mem.now c.run_over-user.new.timer c.args.who
+          (record {
+            regs = c.thread_mut-thread.result.now.regs;
+            reserved = reserved_by c.args.who
+                (machine_of g.W.SwapStore.held c.args.self.now).reserved;
+          })
+          (record {
+            regs = c.run_over-user.new.thread.regs;
+            reserved = c.run_over-user.new.reserved;
+          }) c.thread_mut-thread.result.now.pc c.run_over-user.new.ran run
+          (thread_of c.thread_mut-thread.result.now) c.in-Next.next refl
+          (thread_found g.W.SwapStore.held c.args.self.now c.args.who c.thread_mut-thread.result.now c.thread_mut-thread.ensures.value) c.in-Next.is);
+      reserved = run.reserved;
+    }))
 
 pub returns-in-Next-clause-some : goal.returns-in-Next-clause-some
 returns-in-Next-clause-some g c =
@@ -383,30 +253,3 @@ returns-in-Next-clause-some g c =
     ((λ i. machine_of held (record (with_both (back i) timer old) { threads = with_thread old.threads who (record { pc = c.in-Next.next; regs = c.run_over-user.new.thread.regs; state = (ap (λ (thread : Thread). thread.state) c.run_over-user.ensures.thread) i }) }))
     ∙ machine_put held (with_both mem timer old) _ who _ (c.thread_mut-thread.ensures.writes _))
     found c.in-Next.is)))
-
-pub returns-in-Next-clause-matched : goal.returns-in-Next-clause-matched
-returns-in-Next-clause-matched g c =
-    let back : c.self-1.given.0 ≡ c.run_over-user.result.mem.now = given_back _ _ _ c.self-1.given c.run_over-user.ensures.rest.0 in
-    subst (λ mem. Matched (machine_of g.W.SwapStore.held (record (with_both mem c.run_over-user.new.timer c.args.self.now) { threads = with_thread c.args.self.now.threads c.args.who (record { pc = c.in-Next.next; regs = c.run_over-user.new.thread.regs; state = c.run_over-user.new.thread.state }) }))) (sym back)
-    (ran_matched g.W.SwapStore c.args.self.now c.run_over-user.result.mem.now c.args.who c.requires.matched c.run_over-user.ensures.rest.2 c.has_timer-on.result c.run_over-user.new.timer c.has_timer-on.ensures c.run_over-user.ensures.timer c.thread_mut-thread.result.now
-    (record { pc = c.in-Next.next; regs = c.run_over-user.new.thread.regs; state = c.run_over-user.new.thread.state }) c.thread_mut-thread.ensures.value _ (c.thread_mut-thread.ensures.writes _) (ap (λ (thread : Thread). thread.state) c.run_over-user.ensures.thread)
-    (goes_aligned c.run_over-user.new.ran c.in-Next.next c.in-Next.is c.run_over-user.ensures.aligned))
-
-pub returns-in-Next-clause-ready : goal.returns-in-Next-clause-ready
-returns-in-Next-clause-ready g c =
-    let back : c.self-1.given.0 ≡ c.run_over-user.result.mem.now = given_back _ _ _ c.self-1.given c.run_over-user.ensures.rest.0 in
-    subst (λ mem. ready_at (machine_of g.W.SwapStore.held (record (with_both mem c.run_over-user.new.timer c.args.self.now) { threads = with_thread c.args.self.now.threads c.args.who (record { pc = c.in-Next.next; regs = c.run_over-user.new.thread.regs; state = c.run_over-user.new.thread.state }) })) c.args.who ≡ ready_at (machine_of g.W.SwapStore.held c.args.self.now) c.args.who) (sym back)
-    (ran_ready g.W.SwapStore c.args.self.now c.run_over-user.result.mem.now c.args.who c.requires.matched c.run_over-user.ensures.rest.2 c.has_timer-on.result c.run_over-user.new.timer c.has_timer-on.ensures c.run_over-user.ensures.timer c.thread_mut-thread.result.now
-    (record { pc = c.in-Next.next; regs = c.run_over-user.new.thread.regs; state = c.run_over-user.new.thread.state }) c.thread_mut-thread.ensures.value _ (c.thread_mut-thread.ensures.writes _) (ap (λ (thread : Thread). thread.state) c.run_over-user.ensures.thread))
-
-pub returns-in-Next-clause-none : goal.returns-in-Next-clause-none
-returns-in-Next-clause-none g c =
-    let back : c.self-1.given.0 ≡ c.run_over-user.result.mem.now = given_back _ _ _ c.self-1.given c.run_over-user.ensures.rest.0 in
-    λ none. subst (λ mem. none_out mem ≡ true) (sym back) (c.run_over-user.ensures.rest.2.none none)
-
-pub returns-in-Next-clause-keeps : goal.returns-in-Next-clause-keeps
-returns-in-Next-clause-keeps g c =
-    let back : c.self-1.given.0 ≡ c.run_over-user.result.mem.now = given_back _ _ _ c.self-1.given c.run_over-user.ensures.rest.0 in
-    let kept : Keeps g.W.SwapStore c.args.self.now (with_memory c.self-1.given.0 c.args.self.now) =
-    subst (λ mem. Keeps g.W.SwapStore c.args.self.now (with_memory mem c.args.self.now)) (sym back) (keeps_with g.W.SwapStore c.args.self.now c.run_over-user.result.mem.now c.requires.whole c.args.who.pid c.run_over-user.ensures.rest.2) in
-    record { size = kept.size; store = kept.store; room = kept.room }

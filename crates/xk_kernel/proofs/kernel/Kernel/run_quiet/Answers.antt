@@ -6,12 +6,14 @@ use Rattle.vm_memory.proofs.Changing.SoundMemoryLemmas.{sound-tied}
 use Rattle.vm_memory.specs.Bytes.{MeansBytesOver}
 use Rattle.vm_memory.specs.Tie.{IsTied}
 use Rattle.xk_kernel.specs.Quiet.{RunsQuietly, is_quiet}
+use Rattle.xk_kernel.specs.QuietOver.{PutsThread}
 use Rattle.xk_kernel.specs.State.{machine_of}
 use Rattle.xk_kernel.specs.Stepping.{last_of}
 use Rattle.xk_kernel.proofs.Acting.SettlesLemmas.{on_failure}
 use Rattle.xk_kernel.proofs.Acting.StepOfLemmas.{failed_sound}
 use Rattle.xk_kernel.proofs.Memory.KnownLemmas.{means_ends}
 use Rattle.xk_kernel.proofs.Quieting.RowLemmas.{hand_in, matched_still, whole_still}
+use Rattle.xk_kernel.proofs.Quieting.StoodLemmas.{stood_all, stood_none}
 use Rattle.xk_kernel.proofs.Quieting.TurnLemmas.{aligned_in_hand, came_back, matched_back, none_quiet, ready_acts, some_quiet, still_steps, still_there, unready_is_loud}
 use Rattle.xk_kernel.proofs.kernel.Kernel.run_quiet.Goals as goal
 
@@ -27,6 +29,9 @@ returns-then-not-is_ready_at-clause-runs g c known =
 
 pub returns-then-not-is_ready_at-clause-tie : goal.returns-then-not-is_ready_at-clause-tie
 returns-then-not-is_ready_at-clause-tie g c = sound-tied g.W.SwapStore c.args.self.now.mem c.requires.sound.whole.mem
+
+pub returns-then-not-is_ready_at-clause-stood : goal.returns-then-not-is_ready_at-clause-stood
+returns-then-not-is_ready_at-clause-stood g c known = stood_none g.W.SwapStore c.args.self.now c.requires.sound c.requires.usable
 
 -- ---- the row
 
@@ -93,6 +98,9 @@ returns-then-done-eq0-clause-runs g c known =
 pub returns-then-done-eq0-clause-stays : goal.returns-then-done-eq0-clause-stays
 returns-then-done-eq0-clause-stays g c none = ap (λ k. last_of k) c.quiet_steps.ensures.same
 
+pub returns-then-done-eq0-clause-stood : goal.returns-then-done-eq0-clause-stood
+returns-then-done-eq0-clause-stood g c known = stood_none g.W.SwapStore c.args.self.now c.requires.sound c.requires.usable
+
 -- ---- some were
 
 pub take_back-requires-clause-there : goal.take_back-requires-clause-there
@@ -153,6 +161,18 @@ returns-clause-runs g c known =
     (subst (λ mem. MeansBytesOver g.W.SwapStore c.args.self.now.mem mem) c.take_back.ensures.mem known)).0)
     (came_back g.W.SwapStore c.args.self.now (record { thread = c.thread.result.now; reserved = c.reserved_by-reserved.result }) c.thread.ensures c.reserved_by-reserved.ensures
     c.quiet_steps.new.self (record { thread = c.quiet_steps.new.thread; reserved = c.quiet_steps.new.reserved }) (record { same = c.quiet_steps.ensures.same; rest = c.quiet_steps.ensures.rest; state = c.quiet_steps.ensures.state; aligned = c.quiet_steps.ensures.aligned }) c.take_back.new.self c.in_ok-done.done c.take_back.ensures.machine)
+
+pub returns-clause-stood : goal.returns-clause-stood
+returns-clause-stood g c known =
+    let S = g.W.SwapStore in
+    let old = c.args.self.now in
+    stood_all S old c.requires.sound c.requires.usable (record { thread = c.thread.result.now; reserved = c.reserved_by-reserved.result })
+    c.thread.ensures c.reserved_by-reserved.ensures
+    (means_ends S old.mem c.quiet_steps.new.self.mem c.quiet_steps.ensures.rest.store
+    (subst (λ mem. MeansBytesOver S old.mem mem) c.take_back.ensures.mem known)).0
+    (λ thread. subst (λ table. PutsThread table old.cursor thread) (ap (λ k. k.threads) c.quiet_steps.ensures.same) (c.take_back.ensures.puts thread))
+    c.in_ok-done.done c.in_ok-done.ensures.came
+    (λ j less. c.steps_before_due-until.ensures.rests j (let few = c.in_ok-done.ensures.most in omega (arith, less, few)))
 
 pub returns-clause-tie : goal.returns-clause-tie
 returns-clause-tie g c = subst (λ mem. IsTied g.W.SwapStore.held mem) (sym c.take_back.ensures.mem) (c.quiet_steps.ensures.rest.tie c.requires.sound.whole.mem)

@@ -1,5 +1,5 @@
 -- A message is sent, or its server is full, or the caller refused.
-use Rattle.std.proofs.Common.{◌≡◌, ◌+◌, ◌<◌, ◌≤◌, ap, ◌∙◌, arith}
+use Rattle.std.proofs.Common.{◌≡◌, ◌+◌, ◌<◌, ◌≤◌, ap, ◌∙◌, arith, rules}
 use Rattle.std.specs.Prelude.{if◌then◌else◌}
 use Rattle.machine_model.specs.State.Changes.{Refused, Retried}
 use Rattle.send_path.proofs.Taken.{over, parts_of}
@@ -44,15 +44,20 @@ overflow_add-self g c =
     let few : c.args.self.now.steps < 4000000000 = c.requires.calls.few in
     omega arith
 
-pub returns-in-Accepted-clause-whole : goal.returns-in-Accepted-clause-whole
+pub returns-in-Accepted-clause-stays : goal.returns-in-Accepted-clause-stays
 unfolding machine_of
-returns-in-Accepted-clause-whole g c =
+returns-in-Accepted-clause-stays g c =
     let k = c.args.self.now in
     let new = parts_of c.send-sent.new.mem c.send-sent.new.threads k.servers c.send-sent.new.queues c.send-sent.new.log in
+    let whole =
     new_whole g.W.SwapStore k new (k.next + 1) c.requires.calls.whole
     (sound_without g.W.SwapStore k new
     c.in-Accepted.ensures.sound)
-    c.in-Accepted.ensures.mem.size (served_room (c.in-Accepted.ensures.row (machine_of g.W.SwapStore.held k)))
+    c.in-Accepted.ensures.mem.size (served_room (c.in-Accepted.ensures.row (machine_of g.W.SwapStore.held k))) in
+    let keeps =
+    new_keeps g.W.SwapStore k (with_new k new (k.next + 1))
+    c.in-Accepted.ensures.mem (served_room (c.in-Accepted.ensures.row (machine_of g.W.SwapStore.held k))) in
+    search (rules, whole, keeps)
 
 pub returns-in-Accepted-clause-tells : goal.returns-in-Accepted-clause-tells
 unfolding machine_of
@@ -64,13 +69,6 @@ returns-in-Accepted-clause-tells g c =
     served_settles held k (table_row c.args.words) (with_new k new (k.next + 1)) (machine_at held k.cursor (over k.procs (parts k)) (with_number k.next (machine_of held k)))
     (machine_at held k.cursor (over k.procs new) (with_number (k.next + 1) (machine_of held k))) (machine_next held k (parts k) c.requires.calls.whole.threads k.next)
     (machine_next held k new sound.processes (k.next + 1)) (c.in-Accepted.ensures.row (machine_of held k))
-
-pub returns-in-Accepted-clause-keeps : goal.returns-in-Accepted-clause-keeps
-returns-in-Accepted-clause-keeps g c =
-    let k = c.args.self.now in
-    let new = parts_of c.send-sent.new.mem c.send-sent.new.threads k.servers c.send-sent.new.queues c.send-sent.new.log in
-    new_keeps g.W.SwapStore k (with_new k new (k.next + 1))
-    c.in-Accepted.ensures.mem (served_room (c.in-Accepted.ensures.row (machine_of g.W.SwapStore.held k)))
 
 -- ---- full
 

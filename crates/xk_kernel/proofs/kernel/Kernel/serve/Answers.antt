@@ -1,6 +1,6 @@
 -- What a served call comes to is its row of the table.
 use Rattle.std.proofs.Common.{◌≤◌, ◌<◌, ◌+◌, ◌∙◌, ap, subst, arith}
-use Rattle.std.proofs.lemmas.Result.{IfOk-weaker, on_err_weaker}
+use Rattle.std.proofs.lemmas.Result.{IfOk-weaker}
 use Rattle.machine_model.specs.State.Changes.{Served, answering}
 use Rattle.machine_model.specs.State.Threads.{answer_to}
 use Rattle.server_table.specs.ServersOf.{servers_of}
@@ -9,6 +9,7 @@ use Rattle.syscall_codec.specs.ReplyWords.{plain_words}
 use Rattle.xk_kernel.specs.Calling.{CrowdsBy}
 use Rattle.xk_kernel.specs.State.{machine_of}
 use Rattle.xk_kernel.proofs.Calling.CallTableLemmas.{claim_is, connect_is, create_is, create_server_is, decrease_is, free_is, increase_is, join_is, map_is, none_left, plain_asked, process_id_is, thread_id_is, try_connect_is, unmap_is, update_is, yield_is}
+use Rattle.xk_kernel.proofs.Calling.OverLemmas.{leaves_where}
 use Rattle.xk_kernel.proofs.Memory.MadeLemmas.{serves_by, serves_row}
 use Rattle.xk_kernel.proofs.kernel.Kernel.serve.Goals as goal
 
@@ -102,26 +103,17 @@ returns-in-MapMemory-clause-outcome g c =
     serves)
     c.map_memory.ensures.outcome
 
-pub returns-in-MapMemory-clause-crowded : goal.returns-in-MapMemory-clause-crowded
+pub returns-in-MapMemory-clause-leaves : goal.returns-in-MapMemory-clause-leaves
 unfolding machine_of
-returns-in-MapMemory-clause-crowded g c =
-    on_err_weaker c.map_memory.result
+returns-in-MapMemory-clause-leaves g c =
+    leaves_where c.map_memory.result
     (λ crowded words asks.
     subst (CrowdsBy g.W.SwapStore.held c.args.self.now)
     (map_is (machine_of g.W.SwapStore.held c.args.self.now) words
     (c.requires.free words asks)
     c.in-MapMemory.phys c.in-MapMemory.virt c.in-MapMemory.size c.in-MapMemory.flags (subst (Asks words) c.in-MapMemory.is asks))
     crowded)
-    c.map_memory.ensures.crowded
-
-pub returns-in-MapMemory-clause-near : goal.returns-in-MapMemory-clause-near
-unfolding machine_of
-returns-in-MapMemory-clause-near g c none out words asks =
-    subst (CrowdsBy g.W.SwapStore.held c.args.self.now)
-    (map_is (machine_of g.W.SwapStore.held c.args.self.now) words
-    (c.requires.free words asks)
-    c.in-MapMemory.phys c.in-MapMemory.virt c.in-MapMemory.size c.in-MapMemory.flags (subst (Asks words) c.in-MapMemory.is asks))
-    (c.map_memory.ensures.near none out)
+    c.map_memory.ensures.leaves
 
 pub returns-in-IncreaseHeap-clause-outcome : goal.returns-in-IncreaseHeap-clause-outcome
 unfolding machine_of
@@ -134,26 +126,17 @@ returns-in-IncreaseHeap-clause-outcome g c =
     serves)
     c.increase_heap.ensures.outcome
 
-pub returns-in-IncreaseHeap-clause-crowded : goal.returns-in-IncreaseHeap-clause-crowded
+pub returns-in-IncreaseHeap-clause-leaves : goal.returns-in-IncreaseHeap-clause-leaves
 unfolding machine_of
-returns-in-IncreaseHeap-clause-crowded g c =
-    on_err_weaker c.increase_heap.result
+returns-in-IncreaseHeap-clause-leaves g c =
+    leaves_where c.increase_heap.result
     (λ crowded words asks.
     subst (CrowdsBy g.W.SwapStore.held c.args.self.now)
     (increase_is (machine_of g.W.SwapStore.held c.args.self.now) words
     (c.requires.free words asks)
     c.in-IncreaseHeap.bytes (subst (Asks words) c.in-IncreaseHeap.is asks))
     crowded)
-    c.increase_heap.ensures.crowded
-
-pub returns-in-IncreaseHeap-clause-near : goal.returns-in-IncreaseHeap-clause-near
-unfolding machine_of
-returns-in-IncreaseHeap-clause-near g c none out words asks =
-    subst (CrowdsBy g.W.SwapStore.held c.args.self.now)
-    (increase_is (machine_of g.W.SwapStore.held c.args.self.now) words
-    (c.requires.free words asks)
-    c.in-IncreaseHeap.bytes (subst (Asks words) c.in-IncreaseHeap.is asks))
-    (c.increase_heap.ensures.near none out)
+    c.increase_heap.ensures.leaves
 
 pub returns-in-Yield-clause-outcome : goal.returns-in-Yield-clause-outcome
 unfolding machine_of

@@ -18,3 +18,6 @@ pub returns-clause-whole : goal.returns-clause-whole
 returns-clause-whole g c whole =
     whole_back g.W.SwapStore c.args.self.now _ (c.thread_mut.ensures.count c.args.thread)
     c.reservation-self.result (c.args.self.now.steps + c.args.done) c.clear.new.self (ap (λ (log : LogState). log.room) c.clear.ensures) whole
+
+pub returns-clause-puts : goal.returns-clause-puts
+returns-clause-puts g c other = record { threads = c.thread_mut.ensures.writes other; count = c.thread_mut.ensures.count other }

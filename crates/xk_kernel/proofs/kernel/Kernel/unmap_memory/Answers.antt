@@ -1,4 +1,4 @@
-use Rattle.std.proofs.Common.{sym, ◌∙◌, ◌/◌}
+use Rattle.std.proofs.Common.{sym, ◌∙◌, ◌/◌, rules}
 use Rattle.std.specs.Prelude.{Ok, Err}
 use Rattle.vm_memory.specs.Memory.{ledger, processes}
 use Rattle.xk_kernel.proofs.Memory.KeptLoanLemmas.{remove_keeps}
@@ -8,11 +8,13 @@ use Rattle.xk_kernel.proofs.kernel.Kernel.unmap_memory.Goals as goal
 pub remove_run-requires-clause-process : goal.remove_run-requires-clause-process
 remove_run-requires-clause-process g c = rw c.caller_place-first.ensures (caller_process g.W.SwapStore c.args.self.now c.requires.whole)
 
-pub returns-in-Ok-clause-whole : goal.returns-in-Ok-clause-whole
-returns-in-Ok-clause-whole g c =
+pub returns-in-Ok-clause-stays : goal.returns-in-Ok-clause-stays
+returns-in-Ok-clause-stays g c =
+    let whole =
     whole_with_mem g.W.SwapStore c.args.self.now c.remove_run.new.self c.requires.whole c.remove_run.ensures.size c.remove_run.ensures.sound
     (remove_keeps (processes c.args.self.now.mem) c.remove_run.result c.caller_place-first.result (c.args.size / 4096) (ledger g.W.SwapStore.held c.args.self.now.mem)
-    (ledger g.W.SwapStore.held c.remove_run.new.self) c.remove_run.ensures.answer c.remove_run.ensures.ledger)
+    (ledger g.W.SwapStore.held c.remove_run.new.self) c.remove_run.ensures.answer c.remove_run.ensures.ledger) in
+    search (rules, whole)
 
 pub returns-in-Ok-clause-outcome : goal.returns-in-Ok-clause-outcome
 returns-in-Ok-clause-outcome g c =

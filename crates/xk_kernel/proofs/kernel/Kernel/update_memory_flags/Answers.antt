@@ -1,4 +1,4 @@
-use Rattle.std.proofs.Common.{sym, ◌∙◌, ◌/◌}
+use Rattle.std.proofs.Common.{sym, ◌∙◌, ◌/◌, rules}
 use Rattle.std.specs.Prelude.{Ok, Err}
 use Rattle.machine_model.specs.Calling.MemoryCalls.{are_bad_flags}
 use Rattle.syscall_codec.specs.Flags.{right_of}
@@ -10,11 +10,13 @@ use Rattle.xk_kernel.proofs.kernel.Kernel.update_memory_flags.Goals as goal
 pub reduce_run-requires-clause-process : goal.reduce_run-requires-clause-process
 reduce_run-requires-clause-process g c = rw c.caller_place-first.ensures (caller_process g.W.SwapStore c.args.self.now c.requires.whole)
 
-pub returns-in-Ok-clause-whole : goal.returns-in-Ok-clause-whole
-returns-in-Ok-clause-whole g c =
+pub returns-in-Ok-clause-stays : goal.returns-in-Ok-clause-stays
+returns-in-Ok-clause-stays g c =
+    let whole =
     whole_with_mem g.W.SwapStore c.args.self.now c.reduce_run.new.self c.requires.whole c.reduce_run.ensures.size c.reduce_run.ensures.sound
     (reduce_keeps c.reduce_run.result c.caller_place-first.result (c.args.size / 4096) c.in-Some.right (ledger g.W.SwapStore.held c.args.self.now.mem)
-    (ledger g.W.SwapStore.held c.reduce_run.new.self) c.reduce_run.ensures.ledger)
+    (ledger g.W.SwapStore.held c.reduce_run.new.self) c.reduce_run.ensures.ledger) in
+    search (rules, whole)
 
 pub returns-in-Ok-clause-outcome : goal.returns-in-Ok-clause-outcome
 returns-in-Ok-clause-outcome g c =

@@ -55,3 +55,6 @@ returns-then-not-branch-clause-runs g c =
     c.quiet_step.new.thread c.quiet_step.new.reserved c.args.most c.steps-test.true
     (subst (λ quiet. StepsOver g.W.SwapStore c.args.who (lent c.steps.user.mem.now c.steps.thread c.steps.reserved)
     (lent c.quiet_step.new.user.mem.now c.quiet_step.new.thread c.quiet_step.new.reserved) quiet) c.if-not-branch.true c.in_ok-quiet_step.ensures.does)
+
+pub returns-then-not-branch-clause-came : goal.returns-then-not-branch-clause-came
+returns-then-not-branch-clause-came g c = c.steps.invariant.gone.came

@@ -15,7 +15,7 @@ pub returns-in-Next-clause-known : goal.returns-in-Next-clause-known
 returns-in-Next-clause-known g c = c.run_or_leave.ensures.rest.3 c.requires.known
 
 pub returns-in-Next-clause-usable : goal.returns-in-Next-clause-usable
-returns-in-Next-clause-usable g c = c.in-Next.ensures.fit.1
+returns-in-Next-clause-usable g c = c.in-Next.ensures.uses.fit.1
 
 pub returns-in-Next-clause-does : goal.returns-in-Next-clause-does
 returns-in-Next-clause-does g c =
@@ -34,7 +34,7 @@ returns-in-Ecall-clause-rest g c = c.run_or_leave.ensures.rest.2
 pub returns-in-Ecall-clause-usable : goal.returns-in-Ecall-clause-usable
 returns-in-Ecall-clause-usable g c =
     let mem = c.run_or_leave.new.mem in
-    (of_other c.run_or_leave.result (IsSound g.W.SwapStore.slot_count mem.mem.now × IsUsable mem.mem.now × Remembers mem.mem.now mem.pid mem.known) c.in-Ecall.is c.run_or_leave.ensures.fit).1
+    (of_other c.run_or_leave.result (IsSound g.W.SwapStore.slot_count mem.mem.now × IsUsable mem.mem.now × Remembers mem.mem.now mem.pid mem.known) c.in-Ecall.is c.run_or_leave.ensures.uses.fit).1
 
 pub returns-in-Ecall-clause-does : goal.returns-in-Ecall-clause-does
 returns-in-Ecall-clause-does g c =
@@ -52,11 +52,11 @@ pub returns-in-Failed-clause-failed : goal.returns-in-Failed-clause-failed
 returns-in-Failed-clause-failed g c =
     let mem = c.run_or_leave.new.mem in
     has_failed_by g.W.SwapStore.slot_count mem.mem.now (Remembers mem.mem.now mem.pid mem.known) (c.run_or_leave.ensures.rest.2.sound c.requires.sound)
-    (c.run_or_leave.ensures.rest.3 c.requires.known) (if_failed_at _ c.run_or_leave.result c.in-Failed.is c.run_or_leave.ensures.unfit)
+    (c.run_or_leave.ensures.rest.3 c.requires.known) (if_failed_at _ c.run_or_leave.result c.in-Failed.is c.run_or_leave.ensures.uses.unfit)
 
 pub returns-in-Failed-clause-out : goal.returns-in-Failed-clause-out
 returns-in-Failed-clause-out g c =
     let mem = c.run_or_leave.new.mem in
     was_out_by g.W.SwapStore.slot_count c.args.user.now.mem.now mem.mem.now (Remembers mem.mem.now mem.pid mem.known) (c.run_or_leave.ensures.rest.2.sound c.requires.sound)
     (c.run_or_leave.ensures.rest.3 c.requires.known) (λ none. c.run_or_leave.ensures.rest.2.out none c.requires.usable)
-    (if_failed_at _ c.run_or_leave.result c.in-Failed.is c.run_or_leave.ensures.unfit)
+    (if_failed_at _ c.run_or_leave.result c.in-Failed.is c.run_or_leave.ensures.uses.unfit)
