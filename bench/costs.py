@@ -23,7 +23,7 @@ from steps import COUNT, ENTRY, PAGE, PRODUCT, RAM_BYTES, ZERO, addi, bne, image
 
 sys.path.insert(0, str(measure.TOP / "tools"))
 
-from xous import state  # noqa: E402: behind the path
+from xous.states import state  # noqa: E402: behind the path
 
 LIMIT = "4000000000"
 S0, S1, S2, S3 = 8, 9, 18, 19

@@ -21,7 +21,7 @@ import measure
 
 sys.path.insert(0, str(measure.TOP / "tools"))
 
-from xous import found  # noqa: E402: behind the path
+from xous.runs import found  # noqa: E402: behind the path
 
 BUILT = measure.TOP / "crates/xousorders/out/xousorders"
 EXAMPLES = measure.TOP / "examples"

@@ -1,6 +1,7 @@
 mod ChoiceLemmas
 pub mod Counting
 pub mod EdgeLemmas
+pub mod ExitLemmas
 pub mod InterleavingLemmas
 pub mod MoveLemmas
 pub mod Moving

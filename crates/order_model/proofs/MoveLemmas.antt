@@ -40,7 +40,7 @@ module _ (asked : Asked) (p : Point) (who : ThreadId) (steps : ℕ) where
   pub may_go : IsSome (leads asked p (Slice who steps)) → MayGo asked p who steps
   unfolding leads
   may_go h =
-      let whole = some_if (is_slice asked who steps p.state) (behind p (turned (slice_at asked who p.state))) h in
+      let whole = some_if (is_slice asked who steps p.state) (behind asked p (turned (slice_at asked who p.state))) h in
       let front = and_parts (ready_at p.state who) (not (is_at_bound asked.bound p.state) && ((slice_at asked who p.state).done == steps)) whole in
       let back = and_parts (not (is_at_bound asked.bound p.state)) ((slice_at asked who p.state).done == steps) front.1 in
       record {
@@ -72,7 +72,7 @@ came_set came k low q = elim (cases_eq q k) [
 
 module _ (asked : Asked) (p : Point) (k : ℕ) where
   abbrev pub led : Option Event → Option Point
-  led o = option_map (λ done. with_come k (behind p done)) (option_and_then (λ event. what_comes event p.state) o)
+  led o = option_map (λ done. with_come k (behind asked p done)) (option_and_then (λ event. what_comes event p.state) o)
 
   -- it is one of the events that may come, and hasn't come
   pub record MayCome : Type 0 where
@@ -96,5 +96,5 @@ module _ (asked : Asked) (p : Point) (k : ℕ) where
             event = event;
             its = is;
             free = e;
-            comes = some_mapped (λ done. with_come k (behind p done)) (what_comes event p.state) (sym (ap (λ o. is_some (led o)) at) ∙ h);
+            comes = some_mapped (λ done. with_come k (behind asked p done)) (what_comes event p.state) (sym (ap (λ o. is_some (led o)) at) ∙ h);
           }

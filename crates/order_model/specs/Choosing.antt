@@ -12,6 +12,7 @@ use Rattle.order_model.specs.declared.choices.Choice.{Choice}
 use Rattle.order_model.specs.declared.choices.Choice.TheVariants.{Comes, Goes}
 use Rattle.order_model.specs.declared.orders.Trail.{Trail}
 use Rattle.order_model.specs.Asking.{came_of}
+use Rattle.order_model.specs.Exits.{exit_in}
 use Rattle.snapshot_rows.specs.declared.state.State.{State}
 use Rattle.snapshot_rows.specs.Machines.{machine_of}
 use Rattle.xk_base.specs.Tables.Counting.{listed_below}
@@ -33,12 +34,13 @@ events_at asked p = listed_below (length asked.once) (comes_at asked p)
 abbrev pub choices_at : Asked → Point → List Choice
 choices_at asked p = map Goes (turns_at asked p.state) ++ map Comes (events_at asked p)
 
--- rows of the point's state, with its console and which of the events came
+-- rows of the point's state, with its console, which of the events came, and what processes ended with
 pub record IsStand (p : Point) (state : State) (trail : Trail) : Type 0 where
   pub file : List ℕ
   pub rows : machine_of file state ≡ p.state
   pub console : trail.console.items ≡ p.console
   pub came : (k : ℕ) → came_of trail.came.items k ≡ p.came k
+  pub exits : (pid : ℕ) → exit_in trail.ends.items pid ≡ p.exits pid
 
 -- what was seen at a point: orders go on there, the choices are these, and the note is right
 pub record IsSeen (asked : Asked) (p : Point) (choices : List Choice) (note : Note) : Type 0 where

@@ -2,6 +2,7 @@
 use Rattle.std.specs.Prelude.{◌≡◌, ℕ, ◌+◌, ◌==◌, ◌&&◌, ◌||◌, Bool, true, false, is_some, List, [], ◌∷◌, map, if◌then◌else◌, Option, Some, None}
 use Rattle.std.specs.List.{list_any}
 use Rattle.std.specs.Option.{option_and_then, option_map, option_map_or}
+use Rattle.order_model.specs.declared.exits.Exit.{Exit}
 use Rattle.xk_base.specs.declared.ids.Number.{Number}
 use Rattle.xk_base.specs.declared.ids.Pid.{Pid}
 use Rattle.xk_base.specs.declared.ids.Sid.{Sid}
@@ -43,17 +44,21 @@ pub data ThreadSeen : Type 0 where
   IsReady : ThreadSeen
   -- it receives at this server
   ReceivesAt : Option Sid → ThreadSeen
-  -- it waits for the answer to the message of this number, which is kept so at this server
-  WaitsFor : Number → Option (Sid × Kept) → ThreadSeen
+  -- it waits for the answer to its message, which is kept so at this server; the message's number isn't seen
+  Waits : Option (Sid × Kept) → ThreadSeen
   -- it joins this thread of its process
   Joins : Tid → ThreadSeen
   -- it is the interrupt thread and runs no handler
   IsIdle : ThreadSeen
 
--- what is seen of a process that lives: its threads but for an idle one
+-- what is seen of a process that lives: its threads but for an idle one; and of another: what it ended with, where that is kept
+pub data Life : Type 0 where
+  Lives : List (ThreadId × ThreadSeen) → Life
+  IsGone : Option Exit → Life
+
 pub record ProcessSeen : Type 0 where
   pub pid : Pid
-  pub threads : Option (List (ThreadId × ThreadSeen))
+  pub life : Life
 
 pub record Seen : Type 0 where
   pub console : List ℕ
@@ -74,7 +79,7 @@ kept_at m number =
 abbrev pub state_seen : Machine → ThreadState → ThreadSeen
 state_seen m Ready = IsReady
 state_seen m (Receiving serial) = ReceivesAt (option_map (λ server. server.sid) (m.servers serial.0))
-state_seen m (Waiting number) = WaitsFor number (kept_at m number)
+state_seen m (Waiting number) = Waits (kept_at m number)
 state_seen m (Joining tid) = Joins tid
 state_seen m Idle = IsIdle
 
@@ -89,17 +94,17 @@ is_busy _ = true
 abbrev pub is_busy_of : Machine → Pid → ThreadId → Bool
 is_busy_of m pid who = (who.pid.0 == pid.0) && option_map_or (λ thread. is_busy thread.state) (m.threads who) false
 
-abbrev pub process_seen : Machine → Pid → ProcessSeen
-process_seen m pid = record {
+abbrev pub process_seen : Machine → (ℕ → Option Exit) → Pid → ProcessSeen
+process_seen m exits pid = record {
   pid = pid;
-  threads = if (m.process pid.0).alive then Some (map (thread_seen m) (listed_ids m.processes (is_busy_of m pid))) else None;
+  life = if (m.process pid.0).alive then Lives (map (thread_seen m) (listed_ids m.processes (is_busy_of m pid))) else IsGone (exits pid.0);
 }
 
--- what is seen of a point: the bytes of the console, which processes live, and what their threads are about
+-- what is seen of a point: the bytes of the console, what the threads of living processes are about, and what the others ended with
 unfoldable pub seen_of : Point → Seen
 seen_of p = record {
   console = p.console;
-  processes = map (λ k. process_seen p.state (record { 0 = k + 2 })) (listed_below p.state.processes (λ k. true));
+  processes = map (λ k. process_seen p.state p.exits (record { 0 = k + 2 })) (listed_below p.state.processes (λ k. true));
 }
 
 -- ---- laws

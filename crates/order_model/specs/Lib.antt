@@ -3,6 +3,7 @@ pub mod Choosing
 pub mod Counts
 pub mod Edges
 pub mod Endings
+pub mod Exits
 pub mod Moves
 pub mod Nodes
 pub mod Orders

@@ -14,6 +14,8 @@ use Rattle.machine_model.specs.State.Machine.{Machine}
 use Rattle.machine_model.specs.State.Order.{ready_at}
 use Rattle.machine_model.specs.Stepping.Events.{killed, raised}
 use Rattle.machine_model.specs.Stepping.Step.{Recorded}
+use Rattle.order_model.specs.declared.exits.Exit.{Exit}
+use Rattle.order_model.specs.Exits.{exits_on, kept_ends}
 use Rattle.order_model.specs.Slices.{Slice as SliceOf, slice, turned}
 use Rattle.order_model.specs.declared.moves.Move.{Move}
 use Rattle.order_model.specs.declared.moves.Move.TheVariants.{Once, Slice}
@@ -23,17 +25,20 @@ pub data Bound : Type 0 where
   Unbounded : Bound
   UpTo : ℕ → Bound
 
--- the orders that are asked for: how many steps a slice has at most, their bound, and the events that may come, each once
+-- the orders that are asked for: how many steps a slice has at most, their bound, the events that may come, each once, and whether it is
+-- kept what processes end with
 pub record Asked : Type 0 where
   pub quantum : ℕ
   pub bound : Bound
   pub once : List Event
+  pub exits : Bool
 
--- a state, the bytes that went to the console before it, and which of the events came
+-- a state, the bytes that went to the console before it, which of the events came, and by pid what processes ended with
 pub record Point : Type 0 where
   pub state : Machine
   pub console : List ℕ
   pub came : ℕ → Bool
+  pub exits : ℕ → Option Exit
 
 -- ---- the console
 
@@ -91,16 +96,21 @@ may_come asked k p = if p.came k then None else slice_get asked.once k
 -- ---- moves
 
 -- the point behind what was done
-abbrev pub behind : Point → Recorded → Point
-behind p done = record p { state = done.machine; console = p.console ++ bytes_of done.records }
+abbrev pub behind : Asked → Point → Recorded → Point
+behind asked p done = record p {
+  state = done.machine;
+  console = p.console ++ bytes_of done.records;
+  exits = exits_on p.exits (kept_ends asked.exits done.records);
+}
 
 abbrev pub with_come : ℕ → Point → Point
 with_come k p = record p { came = put_at nat_eq p.came k true }
 
 -- where a move leads to from a point, where it may be made there
 unfoldable pub leads : Asked → Point → Move → Option Point
-leads asked p (Slice who steps) = if is_slice asked who steps p.state then Some (behind p (turned (slice_at asked who p.state))) else None
-leads asked p (Once k) = option_map (λ done. with_come k (behind p done)) (option_and_then (λ event. what_comes event p.state) (may_come asked k p))
+leads asked p (Slice who steps) = if is_slice asked who steps p.state then Some (behind asked p (turned (slice_at asked who p.state))) else None
+leads asked p (Once k) =
+    option_map (λ done. with_come k (behind asked p done)) (option_and_then (λ event. what_comes event p.state) (may_come asked k p))
 
 -- .. and an order of moves
 unfoldable pub leads_by : Asked → Point → List Move → Option Point

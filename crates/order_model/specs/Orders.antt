@@ -7,14 +7,16 @@ use Rattle.machine_model.specs.Runs.Matched.{Matched}
 use Rattle.machine_laws.specs.History.{history}
 use Rattle.graph_search.specs.Graph.{node_by}
 use Rattle.order_model.specs.declared.moves.Move.{Move}
+use Rattle.order_model.specs.Exits.{exits_on, kept_ends}
 use Rattle.order_model.specs.Moves.{Asked, Point, bytes_of, events_of, leads, leads_by}
 use Rattle.order_model.specs.Nodes.{after, goes_on, node_of}
 
--- the events of an order lead from the point to that one: to its state, within the limit, and to its console
+-- the events of an order lead from the point to that one: to its state, within the limit, to its console, and to its exits
 pub record IsPlayed (asked : Asked) (order : List Move) (limit : ℕ) (p last : Point) : Type 0 where
   pub records : List Rec
   pub is : history (events_of asked order) limit p.state ≡ record { records = records; machine = last.state; met = false }
   pub console : last.console ≡ p.console ++ bytes_of records
+  pub exits : last.exits ≡ exits_on p.exits (kept_ends asked.exits records)
 
 -- the orders go on at each point before the last
 unfoldable pub GoOn : Asked → Point → List Move → Type 0

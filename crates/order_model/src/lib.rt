@@ -3,6 +3,7 @@
 #![tactic(auto)]
 
 mod choices;
+mod exits;
 mod moves;
 mod nodes;
 mod orders;
@@ -10,6 +11,7 @@ mod slices;
 mod turns;
 
 pub use choices::{Choice, Sight, Unseen, see};
+pub use exits::{Ended, Exit, exit_in, push_ends};
 pub use moves::{Move, Note};
 pub use nodes::{
     nodes_are_seen_alike, nodes_lead_alike, orders_are_paths, orders_are_played, orders_are_told,

@@ -39,8 +39,8 @@ pub fn orders_are_paths()
     ensures { OrdersArePaths }
 {}
 
-/// **All points of a node are seen alike**: the bytes of the console, which processes live, and what their threads are about. They end
-/// orders alike, and have the same slices.
+/// **All points of a node are seen alike**: the bytes of the console, what the threads of living processes are about, and what the others
+/// ended with. They end orders alike, and have the same slices.
 pub fn nodes_are_seen_alike()
     ensures { NodesAreSeenAlike }
 {}

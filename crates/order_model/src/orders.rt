@@ -5,6 +5,7 @@ ghost use Rattle.machine_model.specs.State.Machine.{Machine};
 ghost use Rattle.order_model.specs.Moves.{is_at_bound, most_within};
 ghost use Rattle.order_model.specs.Asking.{bound_of};
 
+use crate::exits::Ended;
 use std::alloc::{AllocError, Global};
 use xk_base::Event;
 
@@ -17,13 +18,16 @@ pub struct Orders {
     pub bound: Option<u32>,
     /// The events that may come, each once.
     pub once: Vec<Event>,
+    /// Whether orders differ by what processes end with.
+    pub exits: bool,
 }
 
-/// What an order leaves beside a state: the bytes that went to the console, and which of the events came.
+/// What an order leaves beside a state: the bytes that went to the console, which of the events came, and the processes that ended.
 #[derive(Drop)]
 pub struct Trail {
     pub console: Vec<u8>,
     pub came: Vec<bool>,
+    pub ends: Vec<Ended>,
 }
 
 impl Orders {
@@ -49,12 +53,14 @@ impl Trail {
     /// That of an order without moves.
     pub fn new(alloc: Global, orders: &Orders) -> Result<Trail, AllocError>
         ensures console { IfOk result (λ trail. trail.console.items ≡ []) }
+        ensures ends { IfOk result (λ trail. trail.ends.items ≡ []) }
         ensures came { IfOk result (λ trail. trail.came.items ≡ replicate (length orders.now.once.items) false) }
     {
         let came = vec![in alloc; false; orders.once.len()]?;
         Ok(Trail {
             console: Vec::new(alloc),
             came,
+            ends: Vec::new(alloc),
         })
     }
 }

@@ -35,36 +35,37 @@ quiet_silent m quiet = go (m.threads m.cursor) refl
       none = ap (λ (s : Recorded). s.records) (quiet_step_is m t there (quiet_parts m t there quiet));
     }
 
-pub quiet_plays : (done most left : ℕ) (old mid last : Shown) → GoesQuietly done old.machine mid.machine → done ≤ most
-    → mid.console ≡ old.console → AreSteps (most - done) mid left last → AreSteps most old left last
-quiet_plays zero most left old mid last goes within console plays =
-    let all : most - 0 ≡ most = omega arith in
-    let same : mid ≡ old = λ i. record { machine = goes i; console = console i } in
-    subst (λ (x : Shown). AreSteps most x left last) same (subst (λ n. AreSteps n mid left last) all plays)
-quiet_plays (suc done) most left old mid last goes within console plays =
-    let one : Shown = record { machine = (step old.machine).machine; console = old.console } in
-    let silent = quiet_silent old.machine goes.0 in
-    let rest : most - suc done ≡ (most - 1) - done = omega arith in
-    let all : suc (most - 1) ≡ most = omega (arith, within) in
-    subst (λ n. AreSteps n old left last) all
-    (silent_plays (most - 1) left old one last silent.acts silent.none refl refl
-    (quiet_plays done (most - 1) left one mid last goes.1 (omega (arith, within)) console
-    (subst (λ n. AreSteps n mid left last) rest plays)))
+module _ (keeps : Bool) where
+  pub quiet_plays : (done most left : ℕ) (old mid last : Shown) → GoesQuietly done old.machine mid.machine → done ≤ most
+      → mid.told ≡ old.told → AreSteps keeps (most - done) mid left last → AreSteps keeps most old left last
+  quiet_plays zero most left old mid last goes within told plays =
+      let all : most - 0 ≡ most = omega arith in
+      let same : mid ≡ old = λ i. record { machine = goes i; told = told i } in
+      subst (λ (x : Shown). AreSteps keeps most x left last) same (subst (λ n. AreSteps keeps n mid left last) all plays)
+  quiet_plays (suc done) most left old mid last goes within told plays =
+      let one : Shown = record { machine = (step old.machine).machine; told = old.told } in
+      let silent = quiet_silent old.machine goes.0 in
+      let rest : most - suc done ≡ (most - 1) - done = omega arith in
+      let all : suc (most - 1) ≡ most = omega (arith, within) in
+      subst (λ n. AreSteps keeps n old left last) all
+      (silent_plays keeps (most - 1) left old one last silent.acts silent.none refl refl
+      (quiet_plays done (most - 1) left one mid last goes.1 (omega (arith, within)) told
+      (subst (λ n. AreSteps keeps n mid left last) rest plays)))
 
--- .. and all of them where as many were quiet
-pub quiet_all : (most : ℕ) (old mid : Shown) → GoesQuietly most old.machine mid.machine → mid.console ≡ old.console → AreSteps most old 0 mid
-quiet_all most old mid goes console =
-    let none : 0 ≡ most - most = omega arith in
-    let within : most ≤ most = omega arith in
-    quiet_plays most most 0 old mid mid goes within console (subst (λ n. AreSteps n mid 0 mid) none (none_left mid))
+  -- .. and all of them where as many were quiet
+  pub quiet_all : (most : ℕ) (old mid : Shown) → GoesQuietly most old.machine mid.machine → mid.told ≡ old.told → AreSteps keeps most old 0 mid
+  quiet_all most old mid goes told =
+      let none : 0 ≡ most - most = omega arith in
+      let within : most ≤ most = omega arith in
+      quiet_plays most most 0 old mid mid goes within told (subst (λ n. AreSteps keeps n mid 0 mid) none (none_left keeps mid))
 
-pub quiet_some : (done most : ℕ) (part : Part) (old mid new : Shown) → GoesQuietly done old.machine mid.machine → done ≤ most
-    → mid.console ≡ old.console → PlaysSome (most - done) mid new part → PlaysSome most old new part
-quiet_some done most (On rest) old mid new goes within console plays = (
-  omega (arith, plays.0, within),
-  λ left last steps. quiet_plays done most left old mid last goes within console (plays.1 left last steps),
-)
-quiet_some done most (Over left) old mid new goes within console plays = quiet_plays done most left old mid new goes within console plays
+  pub quiet_some : (done most : ℕ) (part : Part) (old mid new : Shown) → GoesQuietly done old.machine mid.machine → done ≤ most
+      → mid.told ≡ old.told → PlaysSome keeps (most - done) mid new part → PlaysSome keeps most old new part
+  quiet_some done most (On rest) old mid new goes within told plays = (
+    omega (arith, plays.0, within),
+    λ left last steps. quiet_plays done most left old mid last goes within told (plays.1 left last steps),
+  )
+  quiet_some done most (Over left) old mid new goes within told plays = quiet_plays done most left old mid new goes within told plays
 
 pub fewer_later : (done most : ℕ) (part : Part) → done ≤ most → IsFewer (most - done) part → IsFewer most part
 fewer_later done most (On rest) within less = omega (arith, within, less)

@@ -1,5 +1,5 @@
 -- Steps of a slice, one after another.
-use Rattle.std.proofs.Common.{◌≡◌, ◌<◌, ◌+◌, ◌-◌, ℕ, zero, suc, true, false, List, [], ◌∷◌, ◌++◌, is_some, refl, sym, ap, ◌∙◌, arith, append-nil, subst}
+use Rattle.std.proofs.Common.{◌≡◌, ◌<◌, ◌+◌, ◌-◌, ℕ, zero, suc, Bool, true, false, List, [], ◌∷◌, ◌++◌, is_some, refl, sym, ap, ◌∙◌, arith, append-nil, subst}
 use Rattle.std.specs.Prelude.{◌==◌, if◌then◌else◌, length}
 use Rattle.std.proofs.lemmas.Bool.{eqb-true, false≢true}
 use Rattle.machine_model.specs.State.Machine.{Machine}
@@ -9,10 +9,11 @@ use Rattle.xk_base.specs.declared.ids.ThreadId.{ThreadId}
 use Rattle.xk_base.specs.declared.records.Rec.{Rec}
 use Rattle.machine_model.specs.Stepping.Events.{picked}
 use Rattle.order_model.specs.Slices.{Slice, last_or, no_step, slice, steps_up_to}
-use Rattle.order_model.specs.Moves.{bytes_of}
+use Rattle.order_model.specs.declared.exits.Ended.{Ended}
+use Rattle.order_model.proofs.ExitLemmas.{kept_ends-none}
 use Rattle.order_player.specs.declared.slices.Part.TheVariants.{On, Over}
 use Rattle.order_player.specs.Played.{PlaysSome}
-use Rattle.order_player.specs.Steps.{AreSteps, IsSlice, Shown}
+use Rattle.order_player.specs.Steps.{AreSteps, IsSlice, Shown, Told, told_on}
 
 -- ---- what the steps are
 
@@ -37,63 +38,70 @@ loud_steps most m first records some is =
 
 -- ---- and what is played of them
 
--- by what the steps are
-are_steps : (most left : ℕ) (old new : Shown) (s : Slice) → steps_up_to most old.machine ≡ s → new.machine ≡ s.machine → left + s.done ≡ most
-    → new.console ≡ old.console ++ bytes_of s.records → AreSteps most old left new
-are_steps most left old new s is machine done console = record {
-  machine = machine ∙ ap (λ (x : Slice). x.machine) (sym is);
-  done = ap (λ (x : Slice). left + x.done) is ∙ done;
-  console = console ∙ ap (λ (x : Slice). old.console ++ bytes_of x.records) (sym is);
-}
+-- no record tells anything
+pub told_none : (keeps : Bool) (told : Told) → told_on keeps told [] ≡ told
+told_none keeps told =
+    let ends = ap (λ (xs : List Ended). told.ends ++ xs) (kept_ends-none keeps) ∙ append-nil told.ends in
+    λ i. record { console = append-nil told.console i; ends = ends i }
 
-pub none_left : (old : Shown) → AreSteps 0 old 0 old
-unfolding steps_up_to
-none_left old = record { machine = refl; done = refl; console = sym (append-nil old.console) }
+module _ (keeps : Bool) where
+  -- by what the steps are
+  are_steps : (most left : ℕ) (old new : Shown) (s : Slice) → steps_up_to most old.machine ≡ s → new.machine ≡ s.machine → left + s.done ≡ most
+      → new.told ≡ told_on keeps old.told s.records → AreSteps keeps most old left new
+  are_steps most left old new s is machine done told = record {
+    machine = machine ∙ ap (λ (x : Slice). x.machine) (sym is);
+    done = ap (λ (x : Slice). left + x.done) is ∙ done;
+    told = told ∙ ap (λ (x : Slice). told_on keeps old.told x.records) (sym is);
+  }
 
-pub idle_plays : (most : ℕ) (old : Shown) → is_some (actor old.machine) ≡ false → AreSteps most old most old
-idle_plays most old idle =
-    let all : most + 0 ≡ most = omega arith in
-    are_steps most most old old (no_step old.machine) (idle_steps most old.machine idle) refl all (sym (append-nil old.console))
+  pub none_left : (old : Shown) → AreSteps keeps 0 old 0 old
+  unfolding steps_up_to
+  none_left old = record { machine = refl; done = refl; told = sym (told_none keeps old.told) }
 
-pub loud_plays : (most : ℕ) (old new : Shown) (first : Rec) (records : List Rec) → is_some (actor old.machine) ≡ true
-    → (step old.machine).records ≡ first ∷ records → new.machine ≡ (step old.machine).machine
-    → new.console ≡ old.console ++ bytes_of (first ∷ records) → AreSteps (suc most) old most new
-loud_plays most old new first records some is machine console =
-    let all : most + 1 ≡ suc most = omega arith in
-    are_steps (suc most) most old new _ (loud_steps most old.machine first records some is) machine all console
+  pub idle_plays : (most : ℕ) (old : Shown) → is_some (actor old.machine) ≡ false → AreSteps keeps most old most old
+  idle_plays most old idle =
+      let all : most + 0 ≡ most = omega arith in
+      are_steps most most old old (no_step old.machine) (idle_steps most old.machine idle) refl all (sym (told_none keeps old.told))
 
--- what a silent step leaves is all that is left
-pub silent_plays : (most left : ℕ) (old mid last : Shown) → is_some (actor old.machine) ≡ true → (step old.machine).records ≡ []
-    → mid.machine ≡ (step old.machine).machine → mid.console ≡ old.console → AreSteps most mid left last → AreSteps (suc most) old left last
-silent_plays most left old mid last some none machine console plays =
-    let later : Slice = steps_up_to most (step old.machine).machine in
-    let same : steps_up_to most mid.machine ≡ later = ap (steps_up_to most) machine in
-    let done : left + later.done ≡ most = ap (λ (x : Slice). left + x.done) (sym same) ∙ plays.done in
-    are_steps (suc most) left old last (record later { done = later.done + 1 }) (silent_steps most old.machine some none)
-    (plays.machine ∙ ap (λ (x : Slice). x.machine) same) (omega (arith, done))
-    (plays.console
-    ∙ (ap (λ bytes. bytes ++ bytes_of (steps_up_to most mid.machine).records) console ∙ ap (λ (x : Slice). old.console ++ bytes_of x.records) same))
+  pub loud_plays : (most : ℕ) (old new : Shown) (first : Rec) (records : List Rec) → is_some (actor old.machine) ≡ true
+      → (step old.machine).records ≡ first ∷ records → new.machine ≡ (step old.machine).machine
+      → new.told ≡ told_on keeps old.told (first ∷ records) → AreSteps keeps (suc most) old most new
+  loud_plays most old new first records some is machine told =
+      let all : most + 1 ≡ suc most = omega arith in
+      are_steps (suc most) most old new _ (loud_steps most old.machine first records some is) machine all told
 
--- ---- one step that was done
+  -- what a silent step leaves is all that is left
+  pub silent_plays : (most left : ℕ) (old mid last : Shown) → is_some (actor old.machine) ≡ true → (step old.machine).records ≡ []
+      → mid.machine ≡ (step old.machine).machine → mid.told ≡ old.told → AreSteps keeps most mid left last
+      → AreSteps keeps (suc most) old left last
+  silent_plays most left old mid last some none machine told plays =
+      let later : Slice = steps_up_to most (step old.machine).machine in
+      let same : steps_up_to most mid.machine ≡ later = ap (steps_up_to most) machine in
+      let done : left + later.done ≡ most = ap (λ (x : Slice). left + x.done) (sym same) ∙ plays.done in
+      are_steps (suc most) left old last (record later { done = later.done + 1 }) (silent_steps most old.machine some none)
+      (plays.machine ∙ ap (λ (x : Slice). x.machine) same) (omega (arith, done))
+      (plays.told ∙ (λ i. told_on keeps (told i) (same i).records))
 
-module _ (left : ℕ) (old new : Shown) (records : List Rec) (some : 0 < left) (acts : is_some (actor old.machine) ≡ true)
-    (machine : new.machine ≡ (step old.machine).machine) (told : records ≡ (step old.machine).records)
-    (console : new.console ≡ old.console ++ bytes_of records) where
-  one_more : suc (left - 1) ≡ left
-  one_more = omega (arith, some)
+  -- ---- one step that was done
 
-  pub silent_some : records ≡ [] → PlaysSome left old new (On (left - 1))
-  silent_some none = (
-    omega (arith, some),
-    λ rest last plays. subst (λ n. AreSteps n old rest last) one_more
-        (silent_plays (left - 1) rest old new last acts (sym told ∙ none) machine
-        (console ∙ (ap (λ rs. old.console ++ bytes_of rs) none ∙ append-nil old.console)) plays),
-  )
+  module _ (left : ℕ) (old new : Shown) (records : List Rec) (some : 0 < left) (acts : is_some (actor old.machine) ≡ true)
+      (machine : new.machine ≡ (step old.machine).machine) (are : records ≡ (step old.machine).records)
+      (told : new.told ≡ told_on keeps old.told records) where
+    one_more : suc (left - 1) ≡ left
+    one_more = omega (arith, some)
 
-  pub loud_some : (first : Rec) (others : List Rec) → records ≡ first ∷ others → PlaysSome left old new (Over (left - 1))
-  loud_some first others is =
-      subst (λ n. AreSteps n old (left - 1) new) one_more
-      (loud_plays (left - 1) old new first others acts (sym told ∙ is) machine (console ∙ ap (λ rs. old.console ++ bytes_of rs) is))
+    pub silent_some : records ≡ [] → PlaysSome keeps left old new (On (left - 1))
+    silent_some none = (
+      omega (arith, some),
+      λ rest last plays. subst (λ n. AreSteps keeps n old rest last) one_more
+          (silent_plays (left - 1) rest old new last acts (sym are ∙ none) machine
+          (told ∙ (ap (told_on keeps old.told) none ∙ told_none keeps old.told)) plays),
+    )
+
+    pub loud_some : (first : Rec) (others : List Rec) → records ≡ first ∷ others → PlaysSome keeps left old new (Over (left - 1))
+    loud_some first others is =
+        subst (λ n. AreSteps keeps n old (left - 1) new) one_more
+        (loud_plays (left - 1) old new first others acts (sym are ∙ is) machine (told ∙ ap (told_on keeps old.told) is))
 
 -- ---- lists of records
 
@@ -118,14 +126,14 @@ pub picked_steps : (who : ThreadId) (m : Machine) → (picked who m).machine.ste
 unfolding picked
 picked_steps who m = refl
 
-pub slice_played : (quantum left : ℕ) (who : ThreadId) (old mid last new : Shown) → mid.machine ≡ (picked who old.machine).machine
-    → mid.console ≡ old.console → AreSteps quantum mid left last → new.machine ≡ turn last.machine → new.console ≡ last.console
-    → IsSlice quantum who old (quantum - left) new
+pub slice_played : (keeps : Bool) (quantum left : ℕ) (who : ThreadId) (old mid last new : Shown) → mid.machine ≡ (picked who old.machine).machine
+    → mid.told ≡ old.told → AreSteps keeps quantum mid left last → new.machine ≡ turn last.machine → new.told ≡ last.told
+    → IsSlice keeps quantum who old (quantum - left) new
 unfolding slice
-slice_played quantum left who old mid last new begins same steps ends told =
+slice_played keeps quantum left who old mid last new begins same steps ends told =
     let count : quantum - left ≡ (steps_up_to quantum mid.machine).done = omega (arith, steps.done) in
     record {
       machine = ends ∙ ap turn (steps.machine ∙ ap (λ (m : Machine). (steps_up_to quantum m).machine) begins);
       done = count ∙ ap (λ (m : Machine). (steps_up_to quantum m).done) begins;
-      console = told ∙ (steps.console ∙ (λ i. same i ++ bytes_of (steps_up_to quantum (begins i)).records));
+      told = told ∙ (steps.told ∙ (λ i. told_on keeps (same i) (steps_up_to quantum (begins i)).records));
     }

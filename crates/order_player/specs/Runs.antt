@@ -7,11 +7,17 @@ use Rattle.order_model.specs.declared.moves.Move.{Move}
 use Rattle.order_model.specs.Moves.{Asked, Point, leads_by, most_steps}
 use Rattle.order_model.specs.declared.orders.Trail.{Trail}
 use Rattle.order_model.specs.Asking.{came_of}
+use Rattle.order_model.specs.Exits.{exit_in}
 use Rattle.xk_base.specs.declared.limits.TheConstants.{STEP_LIMIT}
 
 -- where a run is: at the kernel's state, with what its order left
 abbrev pub point_of : {W : Type 0} → SwapStore W → Kernel W → Trail → Point
-point_of S kernel trail = record { state = machine_of S.held kernel; console = trail.console.items; came = came_of trail.came.items }
+point_of S kernel trail = record {
+  state = machine_of S.held kernel;
+  console = trail.console.items;
+  came = came_of trail.came.items;
+  exits = exit_in trail.ends.items;
+}
 
 -- with a slice of as many steps as it may have there, a run has more than it can have
 abbrev pub IsNearLimit : Asked → Point → Type 0

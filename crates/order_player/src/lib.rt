@@ -3,6 +3,7 @@
 
 mod moves;
 mod slices;
+mod told;
 
 pub use moves::{MoveFault, play_move, play_order, play_thread};
 pub use slices::{SliceFault, play_slice};

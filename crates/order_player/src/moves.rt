@@ -12,7 +12,8 @@ ghost use Rattle.order_model.specs.declared.moves.Move.TheVariants.{Once, Slice}
 ghost use Rattle.order_model.specs.Asking.{asked_of, bound_of};
 ghost use Rattle.order_player.specs.Runs.{IsNearLimit, MeetsLimit, point_of};
 
-use crate::slices::{SliceFault, play_slice, push_bytes};
+use crate::slices::{SliceFault, play_slice};
+use crate::told::push_told;
 use order_model::{Move, Orders, Trail};
 use xk_base::limits::STEP_LIMIT;
 use xk_base::{Event, ThreadId};
@@ -24,7 +25,7 @@ use xk_ports::SwapStore;
 pub enum MoveFault {
     /// The store failed.
     Swap,
-    /// There was no memory for the bytes of the console.
+    /// There was no memory for what the records tell.
     Memory,
     /// A run may not have as many steps.
     Steps,
@@ -56,7 +57,7 @@ pub fn play_thread<W: SwapStore>(
     if u64::from(kernel.steps()) + u64::from(most) > u64::from(STEP_LIMIT) {
         return Err(MoveFault::Steps);
     }
-    match play_slice(kernel, who, most, &mut trail.console) {
+    match play_slice(kernel, who, most, orders.exits, trail) {
         Ok(steps) => Ok(steps),
         Err(SliceFault::Swap) => Err(MoveFault::Swap),
         Err(SliceFault::Memory) => Err(MoveFault::Memory),
@@ -101,7 +102,7 @@ fn play_once<W: SwapStore>(
     ensures keeps { Keeps W.SwapStore kernel.old kernel.new }
 {
     kernel.event_start(event_of(orders, number));
-    let Ok(()) = push_bytes(kernel.last(), &mut trail.console) else {
+    let Ok(()) = push_told(orders.exits, kernel.last(), trail) else {
         return Err(MoveFault::Memory);
     };
     mark(&mut trail.came, number);

@@ -71,7 +71,7 @@ module _ (asked : Asked) (p : Point) where
 
   -- ---- an event
 
-  led : (k : ℕ) (o : Option Recorded) → is_some o ≡ true → is_some (option_map (λ done. with_come k (behind p done)) o) ≡ true
+  led : (k : ℕ) (o : Option Recorded) → is_some o ≡ true → is_some (option_map (λ done. with_come k (behind asked p done)) o) ≡ true
   led k None e = e
   led k (Some done) e = refl
 

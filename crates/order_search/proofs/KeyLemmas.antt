@@ -3,14 +3,17 @@ use Rattle.std.proofs.Common.{◌≡◌, ◌<◌, ◌≤◌, ◌+◌, ◌∙◌,
 use Rattle.std.specs.Int.{from_bool}
 use Rattle.std.specs.Prelude.{get_or, map}
 use Rattle.std.proofs.Math.Seq.{take-suc}
-use Rattle.std.proofs.lemmas.List.{map-append}
+use Rattle.std.specs.List.{flat_map}
+use Rattle.std.proofs.lemmas.List.{flat_map_more, map-append}
 use Rattle.machine_model.specs.State.Machine.{Machine}
-use Rattle.order_search.specs.Keys.{IsToldOf, came_byte, came_list, has_bound}
+use Rattle.order_search.specs.Keys.{IsToldOf, came_byte, came_list, exits_bytes, exit_bytes, has_bound}
+use Rattle.order_model.specs.declared.exits.Exit.{Exit}
 use Rattle.order_model.specs.Moves.{Asked}
 use Rattle.order_model.specs.Asking.{bound_of, came_of}
 use Rattle.suspend_image.specs.Spelling.{machine_bytes}
 use Rattle.suspend_image.specs.StateBytes.{saved_bytes, saved_parts}
 use Rattle.suspend_image.specs.Words.{word_bytes}
+use Rattle.xk_base.specs.Tables.Counting.{listed_below}
 
 -- ---- bytes of the events that came
 
@@ -39,19 +42,38 @@ listed_came (b ∷ rest) =
     let behind : (λ (k : ℕ). came_of (b ∷ rest) (k + 1)) ≡ came_of rest = λ i k. came_of (b ∷ rest) (next k i) in
     ap (λ (cs : List Bool). b ∷ cs) (ap (came_list (length rest)) behind ∙ listed_came rest)
 
+-- ---- bytes of what processes ended with
+
+-- those of the next process
+pub next_exit : (exits : ℕ → Option Exit) (k : ℕ) (old bytes more : List ℕ)
+    → bytes ≡ old ++ flat_map (λ j. exit_bytes (exits (j + 2))) (listed_below k (λ j. true)) → more ≡ bytes ++ exit_bytes (exits (k + 2))
+    → more ≡ old ++ flat_map (λ j. exit_bytes (exits (j + 2))) (listed_below (k + 1) (λ j. true))
+unfolding listed_below
+next_exit exits k old bytes more so_far added =
+    let next : suc k ≡ k + 1 = omega arith in
+    let f = λ (j : ℕ). exit_bytes (exits (j + 2)) in
+    subst (λ (n : ℕ). more ≡ old ++ flat_map f (listed_below n (λ j. true))) next
+    (added ∙ (ap (λ (xs : List ℕ). xs ++ f k) so_far ∙ flat_map_more f old (listed_below k (λ j. true)) k))
+
 -- ---- what is told of the point
 
 pub bounded : (o : Option ℕ) → is_some o ≡ has_bound (bound_of o)
 bounded None = refl
 bounded (Some bound) = refl
 
-pub told_of : (asked : Asked) (m : Machine) (console : List ℕ) (came : List Bool) (bytes told consoled : List ℕ) (counts : Bool)
-    → bytes ≡ saved_bytes m → counts ≡ has_bound asked.bound → told ≡ map came_byte came → length came ≡ length asked.once → consoled ≡ console
-    → IsToldOf asked (record { state = m; console = console; came = came_of came }) bytes counts told consoled
-told_of asked m console came bytes told consoled counts is bound events few same =
+pub told_of : (asked : Asked) (m : Machine) (console : List ℕ) (came : List Bool) (exits : ℕ → Option Exit) (bytes told consoled : List ℕ)
+    (counts : Bool) → bytes ≡ saved_bytes m → counts ≡ has_bound asked.bound → told ≡ map came_byte came ++ exits_bytes exits
+    → length came ≡ length asked.once → consoled ≡ console
+    → IsToldOf asked (record { state = m; console = console; came = came_of came; exits = exits }) bytes counts told consoled
+told_of asked m console came exits bytes told consoled counts is bound beside few same =
     let all : came_list (length asked.once) (came_of came) ≡ came =
     ap (λ (n : ℕ). came_list n (came_of came)) (sym few) ∙ listed_came came in
-    record { bytes_are = is; counts_is = bound; came_is = events ∙ ap (map came_byte) (sym all); console_is = same }
+    record {
+      bytes_are = is;
+      counts_is = bound;
+      beside_is = beside ∙ ap (λ (cs : List Bool). map came_byte cs ++ exits_bytes exits) (sym all);
+      console_is = same;
+    }
 
 -- state bytes have all that a key is made of
 saved_long : (m : Machine) → 36 ≤ length (saved_bytes m)

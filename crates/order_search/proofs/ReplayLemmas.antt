@@ -1,6 +1,7 @@
 -- An order that is written as lines behind the events before is played again.
-use Rattle.std.proofs.Common.{◌≡◌, ◌≤◌, ◌∙◌, ℕ, Bool, true, false, List, ◌++◌, length, length-append, Option, None, Some, refl, sym, ap, subst, arith}
+use Rattle.std.proofs.Common.{◌≡◌, ◌≤◌, ◌∙◌, ℕ, Bool, true, false, List, ◌++◌, drop, length, length-append, Option, None, Some, refl, sym, ap, subst, arith}
 use Rattle.std.specs.Prelude.{if◌then◌else◌}
+use Rattle.std.proofs.Math.Seq.{drop-append_seam}
 use Rattle.std.proofs.lemmas.Grind.{flat_map-append}
 use Rattle.event_player.specs.History.{end_of, history_of, run_of}
 use Rattle.event_player.specs.declared.ending.Ending.TheVariants.{BadLine, LimitMet, Played}
@@ -17,11 +18,12 @@ use Rattle.machine_model.specs.State.Machine.{Machine}
 use Rattle.order_model.proofs.Moving.PlayLemmas.{orders_are_played}
 use Rattle.order_model.specs.declared.moves.Move.{Move}
 use Rattle.order_model.specs.Asking.{asked_of}
+use Rattle.order_model.specs.Exits.{exit_in, exits_on, kept_ends}
 use Rattle.order_model.specs.Moves.{Point, byte_of_what, bytes_of, events_of, leads_by}
 use Rattle.order_model.specs.Orders.{IsPlayed}
 use Rattle.order_search.specs.declared.subject.Subject.{Subject}
 use Rattle.order_search.specs.Faults.{IsBegun}
-use Rattle.order_search.specs.Quests.{start_of}
+use Rattle.order_search.specs.Quests.{history_before, start_of}
 use Rattle.order_search.specs.Replays.{EndsAt, IsReadable, replay_file}
 use Rattle.xk_base.specs.declared.events.Event.{Event}
 use Rattle.xk_base.specs.declared.limits.TheConstants.{EVENT_FILE_LIMIT, STEP_LIMIT}
@@ -47,13 +49,21 @@ gone_on first next last unmet there end =
     ∙ (λ i. record { records = first.records ++ last.records; machine = last.machine; met = end i }))
 
 -- what a file asks for, and how its history ends
-ends : (input : Input) (events : List Event) (m : Machine) (h : kernel.History) (last : Point) → input ≡ record { events = events; bad = None }
-    → history events STEP_LIMIT m ≡ h → h.met ≡ false → h.machine ≡ last.state → bytes_of h.records ≡ last.console
-    → EndsAt (history_of input STEP_LIMIT m) last
-ends input events m h last asks is unmet machine console =
-    let K : kernel.History → Type 0 = λ k. EndsAt (record { records = k.records; machine = k.machine; ending = if k.met then LimitMet else Played }) last in
-    let there : K h = record { machine = machine; console = console; ending = ap (λ (b : Bool). if b then LimitMet else Played) unmet } in
-    subst (λ (x : Input). EndsAt (history_of x STEP_LIMIT m) last) (sym asks) (subst K (sym is) there)
+ends : (s : Subject) (input : Input) (events : List Event) (m : Machine) (h : kernel.History) (last : Point)
+    → input ≡ record { events = events; bad = None } → history events STEP_LIMIT m ≡ h → h.met ≡ false → h.machine ≡ last.state
+    → bytes_of h.records ≡ last.console
+    → last.exits ≡ exit_in (kept_ends s.orders.exits (drop (length (history_before s).records) h.records))
+    → EndsAt s (history_of input STEP_LIMIT m) last
+ends s input events m h last asks is unmet machine console exits =
+    let K : kernel.History → Type 0 =
+    λ k. EndsAt s (record { records = k.records; machine = k.machine; ending = if k.met then LimitMet else Played }) last in
+    let there : K h = record {
+      machine = machine;
+      console = console;
+      exits = exits;
+      ending = ap (λ (b : Bool). if b then LimitMet else Played) unmet;
+    } in
+    subst (λ (x : Input). EndsAt s (history_of x STEP_LIMIT m) last) (sym asks) (subst K (sym is) there)
 
 module _ (read : LinesAreRead) (s : Subject) (order : List Move) (last : Point) (begun : IsBegun s) (readable : IsReadable s order)
     (leads : leads_by (asked_of s.orders) (start_of s) order ≡ Some last) (within : last.state.steps ≤ STEP_LIMIT) where
@@ -85,7 +95,11 @@ module _ (read : LinesAreRead) (s : Subject) (order : List Move) (last : Point) 
   unfolding start_of
   start_console = refl
 
-  pub replayed : EndsAt (run_of STEP_LIMIT (start s.plan s.file.items) (replay_file s order)) last
+  start_exits : (start_of s).exits ≡ (λ pid. None)
+  unfolding start_of
+  start_exits = refl
+
+  pub replayed : EndsAt s (run_of STEP_LIMIT (start s.plan s.file.items) (replay_file s order)) last
   replayed =
       let before_events : List Event = (input_of s.before.items).events in
       let later : List Event = events_of (asked_of s.orders) order in
@@ -100,4 +114,8 @@ module _ (read : LinesAreRead) (s : Subject) (order : List Move) (last : Point) 
       let console : bytes_of (front.records ++ played.records) ≡ last.console =
       flat_map-append (λ (told : Rec). byte_of_what told.what) front.records played.records
       ∙ (ap (λ (bytes : List ℕ). bytes ++ bytes_of played.records) (sym start_console) ∙ sym played.console) in
-      ends (input_of (replay_file s order)) (before_events ++ later) machine _ last asks all refl refl console
+      let exits : last.exits ≡ exit_in (kept_ends s.orders.exits (drop (length front.records) (front.records ++ played.records))) =
+      played.exits
+      ∙ (ap (λ exits. exits_on exits (kept_ends s.orders.exits played.records)) start_exits
+      ∙ ap (λ (rs : List Rec). exit_in (kept_ends s.orders.exits rs)) (sym (drop-append_seam front.records played.records))) in
+      ends s (input_of (replay_file s order)) (before_events ++ later) machine _ last asks all refl refl console exits

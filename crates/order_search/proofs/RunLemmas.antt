@@ -1,5 +1,5 @@
 -- Runs of orders: where they begin, and the room that their states have.
-use Rattle.std.proofs.Common.{◌≡◌, ◌<◌, ◌≤◌, ◌⊎◌, ◌∙◌, inl, inr, nat_lt, ℕ, zero, suc, Bool, true, false, List, length, refl, sym, ap, subst, arith}
+use Rattle.std.proofs.Common.{◌≡◌, ◌<◌, ◌≤◌, ◌⊎◌, ◌∙◌, inl, inr, nat_lt, ℕ, zero, suc, Bool, true, false, List, [], length, refl, sym, ap, subst, arith}
 use Rattle.std.specs.Prelude.{get_or, replicate}
 use Rattle.std.proofs.lemmas.Bool.Decides.{nat_tests}
 use Rattle.boot_plan.specs.Capacity.{capacity, page_frames}
@@ -14,6 +14,8 @@ use Rattle.event_player.specs.Standing.{Begins, room_in, stand}
 use Rattle.machine_model.specs.State.Machine.{Machine}
 use Rattle.order_model.specs.Moves.{Point, bytes_of}
 use Rattle.order_model.specs.Asking.{came_of}
+use Rattle.order_model.specs.declared.exits.Ended.{Ended}
+use Rattle.order_model.specs.Exits.{exit_in}
 use Rattle.order_search.specs.declared.subject.Subject.{Subject}
 use Rattle.order_search.specs.Booted.{IsBooted}
 use Rattle.order_search.specs.Quests.{start_of}
@@ -113,20 +115,20 @@ none_came zero k = refl
 none_came (suc n) zero = refl
 none_came (suc n) (suc k) = none_came n k
 
-abbrev here : Machine → List ℕ → List Bool → Point
-here m console came = record { state = m; console = console; came = came_of came }
+abbrev here : Machine → List ℕ → List Bool → List Ended → Point
+here m console came ends = record { state = m; console = console; came = came_of came; exits = exit_in ends }
 
 -- a run whose events before were played is at the start of orders
-pub begun : (s : Subject) (booted m : Machine) (events console : List ℕ) (came : List Bool) → booted ≡ start s.plan s.file.items
+pub begun : (s : Subject) (booted m : Machine) (events console : List ℕ) (came : List Bool) (ends : List Ended) → booted ≡ start s.plan s.file.items
     → events ≡ s.before.items → m ≡ (run_of STEP_LIMIT booted events).machine
     → console ≡ bytes_of (run_of STEP_LIMIT booted events).records → came ≡ replicate (length s.orders.once.items) false
-    → here m console came ≡ start_of s
+    → ends ≡ [] → here m console came ends ≡ start_of s
 unfolding start_of
-begun s booted m events console came is same there told none =
+begun s booted m events console came ends is same there told none no_end =
     let h : run_of STEP_LIMIT booted events ≡ run_of STEP_LIMIT (start s.plan s.file.items) s.before.items =
     λ i. run_of STEP_LIMIT (is i) (same i) in
     let state : m ≡ (run_of STEP_LIMIT (start s.plan s.file.items) s.before.items).machine = there ∙ ap (λ (x : History). x.machine) h in
     let bytes : console ≡ bytes_of (run_of STEP_LIMIT (start s.plan s.file.items) s.before.items).records =
     told ∙ ap (λ (x : History). bytes_of x.records) h in
     let all : came_of came ≡ (λ (k : ℕ). false) = ap came_of none ∙ (λ i k. none_came (length s.orders.once.items) k i) in
-    λ i. record { state = state i; console = bytes i; came = all i }
+    λ i. record { state = state i; console = bytes i; came = all i; exits = exit_in (no_end i) }

@@ -9,6 +9,7 @@ use Rattle.order_model.specs.Moves.{Asked, Point, leads_by}
 use Rattle.order_model.specs.declared.orders.Trail.{Trail}
 use Rattle.order_model.specs.Asking.{came_of}
 use Rattle.order_model.specs.Choosing.{IsStand}
+use Rattle.order_model.specs.Exits.{exit_in}
 use Rattle.snapshot_rows.specs.declared.state.State.{State}
 use Rattle.snapshot_rows.specs.Machines.{machine_of as machine_in}
 use Rattle.suspend_image.proofs.Saved.StateAgainLemmas.{saved_spelled}
@@ -35,10 +36,10 @@ one_point asked start order p q one other = same_Some p q (sym one ∙ other)
 pub stands : (asked : Asked) (start : Point) (order : List Move) (p here : Point) (state : State) (trail : Trail)
     → leads_by asked start order ≡ Some p → leads_by asked start order ≡ Some here
     → (file : List ℕ) × (machine_in file state ≡ here.state) → trail.console.items ≡ here.console
-    → ((k : ℕ) → came_of trail.came.items k ≡ here.came k) → IsStand p state trail
-stands asked start order p here state trail at there rows console came =
+    → ((k : ℕ) → came_of trail.came.items k ≡ here.came k) → ((pid : ℕ) → exit_in trail.ends.items pid ≡ here.exits pid) → IsStand p state trail
+stands asked start order p here state trail at there rows console came exits =
     subst (λ (x : Point). IsStand x state trail) (one_point asked start order here p there at)
-    (record { file = rows.0; rows = rows.1; console = console; came = came })
+    (record { file = rows.0; rows = rows.1; console = console; came = came; exits = exits })
 
 -- the rows that are read of the bytes of a state that was saved
 pub rows_of : (file : List ℕ) (old new : Machine) (state : State) → new ≡ old → Matched old → old.steps ≤ 4000000000 → IsReservedByThread old

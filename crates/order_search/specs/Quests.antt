@@ -1,6 +1,6 @@
 -- Quests: which orders are searched, from which start.
 use Rattle.std.specs.List.{Contains}
-use Rattle.std.specs.Prelude.{◌≡◌, ℕ, false, List, Option, Some}
+use Rattle.std.specs.Prelude.{◌≡◌, ℕ, false, List, Option, Some, None}
 use Rattle.event_player.specs.History.{History, run_of}
 use Rattle.order_search.specs.Keys.{key_of}
 use Rattle.order_model.specs.declared.moves.Move.{Move}
@@ -19,9 +19,10 @@ pub record Searching : Type 0 where
   pub asked : Asked
   pub start : Point
 
--- the point behind a history: its last state and its bytes on the console; none of the events that may come once came
+-- the point behind a history: its last state and its bytes on the console; none of the events that may come once came, and what processes
+-- ended with in it isn't kept
 abbrev pub point_after : History → Point
-point_after h = record { state = h.machine; console = bytes_of h.records; came = λ k. false }
+point_after h = record { state = h.machine; console = bytes_of h.records; came = λ k. false; exits = λ pid. None }
 
 -- the events before are played from the start of the image
 abbrev pub history_before : Subject → History

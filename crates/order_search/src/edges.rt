@@ -1,13 +1,12 @@
 //! The edges that leave a node.
 
-ghost use Rattle.std.specs.Prelude.{◌≡◌, ◌≤◌, IfErr, IfOk, OnOk, Some, length, map};
+ghost use Rattle.std.specs.Prelude.{◌≡◌, ◌≤◌, IfErr, IfOk, OnOk, Some, length};
 ghost use Rattle.suspend_image.specs.Sheets.{room_for};
 ghost use Rattle.xk_kernel.specs.Knowing.{IsTrusted};
 ghost use Rattle.xk_kernel.specs.Sound.{IsSound, IsUsable, Keeps};
 ghost use Rattle.xk_kernel.specs.State.{machine_of};
 ghost use Rattle.graph_search.specs.Edges.{HasCause};
 ghost use Rattle.order_search.specs.Faults.{IsFault, IsMemory, IsUnchosen};
-ghost use Rattle.order_search.specs.Keys.{came_byte};
 ghost use Rattle.order_model.specs.Moves.{Point, leads};
 ghost use Rattle.order_model.specs.Nodes.{node_of};
 ghost use Rattle.order_player.specs.Runs.{point_of};
@@ -16,25 +15,14 @@ ghost use Rattle.order_model.specs.Choosing.{choice_of, choices_at};
 ghost use Rattle.order_model.specs.Edges.{AreEdgesBy, IsEdge};
 ghost use Rattle.order_search.specs.Quests.{Arrives, IsChoice, IsKeyOf, IsPath, searching_of};
 
+use crate::beside::beside_bytes;
 use crate::keys::node_key;
 use crate::quest::{OrderFault, Quest, no_memory, unplayed};
 use crate::runs::Run;
 use graph_search::{Successor, Unanswered};
 use order_model::{Choice, Move, Orders};
 use order_player::{play_move, play_thread};
-use std::alloc::{AllocError, Global};
 use xk_ports::{SureStore, SwapStore};
-
-/// A byte for each event, which tells whether it came.
-fn came_bytes(alloc: Global, came: &[bool]) -> Result<Vec<u8>, AllocError>
-    ensures { IfOk result (λ bytes. bytes.items ≡ map came_byte came.now) }
-{
-    let mut bytes = Vec::new(alloc);
-    for it_came in came {
-        bytes.push(u8::from(*it_came))?;
-    }
-    Ok(bytes)
-}
 
 /// Makes the choice in a run, one of those that it has.
 fn choose(orders: &Orders, run: &mut Run, choice: Choice) -> Result<Move, Unanswered<OrderFault>>
@@ -86,11 +74,11 @@ impl Quest {
         let Ok(()) = run.kernel.save(&mut self.sheet) else {
             return Err(no_memory());
         };
-        let Ok(came) = came_bytes(self.alloc, &run.trail.came) else {
+        let Ok(beside) = beside_bytes(self.alloc, &run.trail) else {
             return Err(no_memory());
         };
         let counts = self.subject.orders.bound.is_some();
-        Ok(node_key(self.sheet.as_slice(), counts, &came, &run.trail.console))
+        Ok(node_key(self.sheet.as_slice(), counts, &beside, &run.trail.console))
     }
 
     /// The edge by a choice from the node of this path.

@@ -14,29 +14,35 @@ const CURSOR: [u8; 8] = [2, 0, 0, 0, 1, 0, 0, 0];
 /// Those of the count of steps, where it isn't kept.
 const NO_STEPS: [u8; 4] = [0; 4];
 
-/// The digest of the state's size, its steps, the cursor, the rest of the state, the events that came, and the console.
-fn digest_of(size: &[u8], steps: &[u8], rest: &[u8], came: &[u8], console: &[u8]) -> [u8; 32]
-    ensures { result ≡ sha256 (((((size.now ++ steps.now) ++ CURSOR) ++ rest.now) ++ came.now) ++ console.now) }
+/// The digest of the state's size, its steps, the cursor, the rest of the state, what is beside it, and the console.
+fn digest_of(size: &[u8], steps: &[u8], rest: &[u8], beside: &[u8], console: &[u8]) -> [u8; 32]
+    ensures { result ≡ sha256 (((((size.now ++ steps.now) ++ CURSOR) ++ rest.now) ++ beside.now) ++ console.now) }
 {
     let mut hasher = Sha256::new();
     hasher.update(size);
     hasher.update(steps);
     hasher.update(&CURSOR);
     hasher.update(rest);
-    hasher.update(came);
+    hasher.update(beside);
     hasher.update(console);
     hasher.finalize()
 }
 
-/// The key of the node of a state with these state bytes, of which these events came, a byte for each, and with these bytes on the
-/// console. A node without a count of steps has none in its key.
-pub fn node_key(bytes: &[u8], counts: bool, came: &[u8], console: &[u8]) -> [u8; 32]
+/// The key of the node of a state with these state bytes, with those of the events that came and of what processes ended with, and with
+/// these bytes on the console. A node without a count of steps has none in its key.
+pub fn node_key(bytes: &[u8], counts: bool, beside: &[u8], console: &[u8]) -> [u8; 32]
     requires long { 36 ≤ length bytes.now }
-    ensures { (asked : Asked) (p : Point) → IsToldOf asked p bytes.now counts came.now console.now → result ≡ key_of asked (node_of asked p) }
+    ensures { (asked : Asked) (p : Point) → IsToldOf asked p bytes.now counts beside.now console.now → result ≡ key_of asked (node_of asked p) }
 {
     if counts {
-        digest_of(&bytes[16..24], &bytes[24..28], &bytes[36..], came, console)
+        digest_of(
+            &bytes[16..24],
+            &bytes[24..28],
+            &bytes[36..],
+            beside,
+            console,
+        )
     } else {
-        digest_of(&bytes[16..24], &NO_STEPS, &bytes[36..], came, console)
+        digest_of(&bytes[16..24], &NO_STEPS, &bytes[36..], beside, console)
     }
 }

@@ -3,6 +3,7 @@
 #![tactic(auto)]
 
 mod before;
+mod beside;
 mod console;
 mod edges;
 mod keys;

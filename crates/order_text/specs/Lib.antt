@@ -1,3 +1,4 @@
+pub mod Consoles
 pub mod Names
 pub mod Rows
 pub mod Texts

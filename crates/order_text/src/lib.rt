@@ -1,6 +1,8 @@
-//! What is seen of a state, as text: the bytes of the console, which processes live, and what their threads are about.
+//! What is seen of a state, as text: the bytes of the console, what the threads of living processes are about, and what others ended with.
 #![tactic(auto)]
 
+mod consoles;
+mod exits;
 mod names;
 mod seen;
 mod text;

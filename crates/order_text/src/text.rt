@@ -1,6 +1,7 @@
 //! Pieces of text, each appended to bytes.
 
 ghost use Rattle.std.specs.Prelude.{◌≡◌, ◌++◌, decimal, OnOk};
+ghost use Rattle.hex.specs.Hex.{encode_lower};
 ghost use Rattle.order_text.specs.Names.{hexadecimal};
 
 use itoa::Buffer;
@@ -27,5 +28,13 @@ pub fn put_hexadecimal(text: &mut Vec<u8>, number: u32) -> Result<(), AllocError
 {
     let alloc = *text.allocator();
     let digits = format!(in alloc; "{number:x}")?;
+    put(text, digits.as_bytes())
+}
+
+/// Appends two hexadecimal digits for each byte.
+pub fn put_digits(text: &mut Vec<u8>, bytes: &[u8]) -> Result<(), AllocError>
+    ensures { OnOk result (text.new.items ≡ text.old.items ++ encode_lower bytes.now) }
+{
+    let digits = hex::encode(*text.allocator(), bytes)?;
     put(text, digits.as_bytes())
 }

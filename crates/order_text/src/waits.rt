@@ -3,7 +3,7 @@
 ghost use Rattle.std.specs.List.{list_any};
 ghost use Rattle.std.specs.Option.{option_map, option_map_or};
 ghost use Rattle.std.specs.Prelude.{◌≡◌, ◌==◌, ◌++◌, [], ℕ, List, OnOk};
-ghost use Rattle.order_model.specs.Endings.{Joins, ReceivesAt, WaitsFor, kept_at, state_seen};
+ghost use Rattle.order_model.specs.Endings.{Joins, ReceivesAt, Waits, kept_at, state_seen};
 ghost use Rattle.order_text.specs.Names.{name_text};
 ghost use Rattle.order_text.specs.Rows.{AreTellable};
 ghost use Rattle.order_text.specs.Texts.{about_text, kept_text, thread_text};
@@ -52,11 +52,11 @@ fn put_kept(text: &mut Vec<u8>, state: &State, number: u32) -> Result<(), AllocE
     let servers = state.servers.as_slice();
     for server in servers {
         if has_message(server.queued.as_slice(), number) {
-            put(text, b" queued at ")?;
+            put(text, b", queued at ")?;
             return put_name(text, &server.sid);
         }
         if has_message(server.held.as_slice(), number) {
-            put(text, b" held at ")?;
+            put(text, b", held at ")?;
             return put_name(text, &server.sid);
         }
     }
@@ -76,10 +76,9 @@ fn put_receives(text: &mut Vec<u8>, state: &State, pid: u32, serial: u32) -> Res
 fn put_waits(text: &mut Vec<u8>, state: &State, pid: u32, number: u32) -> Result<(), AllocError>
     requires { AreTellable state.now }
     ensures { (file : List ℕ) → OnOk result (text.new.items ≡ text.old.items ++ about_text (record { 0 = pid })
-        (WaitsFor (record { 0 = number }) (kept_at (machine_of file state.now) (record { 0 = number })))) }
+        (Waits (kept_at (machine_of file state.now) (record { 0 = number })))) }
 {
-    put(text, b" waits for message ")?;
-    put_number(text, u64::from(number))?;
+    put(text, b" waits")?;
     put_kept(text, state, number)
 }
 

@@ -427,23 +427,23 @@ module _ (t : Telling) where
   -- ---- what is told of orders
 
   -- the text of a node is what is seen where its order leads
-  pub text_there : (node : ℕ) (p : Point) → leads_by t.asked t.start (labels_to t.edges node) ≡ Some p → node_text t node ≡ seen_text (seen_of p)
+  pub text_there : (node : ℕ) (p : Point) → leads_by t.asked t.start (labels_to t.edges node) ≡ Some p → node_text t node ≡ seen_text false (seen_of p)
   unfolding node_text
-  text_there node p leads = ap (λ (o : Option Point). option_map_or (λ (q : Point). seen_text (seen_of q)) o []) leads
+  text_there node p leads = ap (λ (o : Option Point). option_map_or (λ (q : Point). seen_text false (seen_of q)) o []) leads
 
   -- .. as it is put into an empty text
-  pub shown_there : (node : ℕ) (told : IsToldOrder t node) (text empty : List ℕ) → empty ≡ [] → text ≡ empty ++ seen_text (seen_of told.last)
+  pub shown_there : (node : ℕ) (told : IsToldOrder t node) (text empty : List ℕ) → empty ≡ [] → text ≡ empty ++ seen_text false (seen_of told.last)
       → text ≡ node_text t node
   shown_there node told text empty none put =
-      put ∙ (ap (λ (xs : List ℕ). xs ++ seen_text (seen_of told.last)) none ∙ sym (text_there node told.last told.leads))
+      put ∙ (ap (λ (xs : List ℕ). xs ++ seen_text false (seen_of told.last)) none ∙ sym (text_there node told.last told.leads))
 
   -- .. and at each point of it
   text_alike : Matched t.start.state → (number : ℕ) (p : Point)
-      → IsFound (after t.asked) (node_of t.asked t.start) t.edges number (node_of t.asked p) → node_text t number ≡ seen_text (seen_of p)
+      → IsFound (after t.asked) (node_of t.asked t.start) t.edges number (node_of t.asked p) → node_text t number ≡ seen_text false (seen_of p)
   text_alike matched number p found =
       let to = paths_are_orders t.asked (labels_to t.edges number) t.start (node_of t.asked p) matched found.by_path in
       text_there number to.last to.leads
-      ∙ ap seen_text
+      ∙ ap (seen_text false)
       (sym (nodes_are_seen_alike t.asked to.last).seen ∙ (ap seen_of to.is ∙ (nodes_are_seen_alike t.asked p).seen))
 
   pub each_told : (endings : Endings) → AreEndings t (length t.notes) endings → IsSound t → TellsOrders t → TellsEndings t endings

@@ -1,5 +1,5 @@
 -- What is asked for, of the files that the words name.
-use Rattle.std.specs.Prelude.{◌≡◌, ◌<◌, ◌⊎◌, ℕ, List, [], length, Option, Some, None}
+use Rattle.std.specs.Prelude.{◌≡◌, ◌<◌, ◌⊎◌, ℕ, List, [], length, Option, Some, None, true}
 use Rattle.boot_plan.specs.FirstPages.{plan_of}
 use Rattle.boot_plan.specs.ImageFault.{IsImageFault}
 use Rattle.boot_plan.specs.declared.plans.BootPlan.{BootPlan}
@@ -50,6 +50,7 @@ pub record IsAsked (files : HostFiles) (asking : Asking) (s : Subject) : Type 0 
   pub quantum : s.orders.quantum ≡ asking.quantum
   pub bound : s.orders.bound ≡ None
   pub once : s.orders.once.items ≡ asking.once
+  pub exits : s.orders.exits ≡ true
 
 -- ---- files that aren't
 

@@ -23,7 +23,7 @@ ends_at t node = option_map_or (λ note. note.ends) (slice_get t.notes node) fal
 
 -- the text of what is seen where the order to the node of this number leads
 unfoldable pub node_text : Telling → ℕ → List ℕ
-node_text t node = option_map_or (λ p. seen_text (seen_of p)) (leads_by t.asked t.start (labels_to t.edges node)) []
+node_text t node = option_map_or (λ p. seen_text false (seen_of p)) (leads_by t.asked t.start (labels_to t.edges node)) []
 
 -- how many of the first n nodes are endings that look so
 unfoldable pub nodes_like : Telling → ℕ → List ℕ → ℕ
@@ -116,14 +116,14 @@ pub record IsEndingOrder (t : Telling) (ending : Ending) : Type 0 where
   pub last : Point
   pub leads : leads_by t.asked t.start ending.order.items ≡ Some last
   pub ends : is_ending t.asked last.state ≡ true
-  pub seen : ending.seen.items ≡ seen_text (seen_of last)
+  pub seen : ending.seen.items ≡ seen_text false (seen_of last)
 
 -- the point's node is told to look like one of the endings, whose text is what is seen at the point
 pub record LooksLike (t : Telling) (endings : Endings) (p : Point) : Type 0 where
   pub node : ℕ
   pub found : IsFound (after t.asked) (node_of t.asked t.start) t.edges node (node_of t.asked p)
   pub look : IsLook t endings node
-  pub alike : IsAt endings.list.items look.look.ending (seen_text (seen_of p))
+  pub alike : IsAt endings.list.items look.look.ending (seen_text false (seen_of p))
 
 -- **Sound**: the order of each ending that is told leads where orders end and where what is told is seen; no two of them look alike; and
 -- each node where orders end is counted once, with the ending that it looks like.
@@ -137,7 +137,7 @@ pub record TellsEndings (t : Telling) (endings : Endings) : Type 0 where
 abbrev pub AreShortest : Telling → Endings → Type 0
 AreShortest t endings =
     (place : ℕ) (ending : Ending) (order : List Move) (last : Point) → slice_get endings.list.items place ≡ Some ending
-    → leads_by t.asked t.start order ≡ Some last → is_ending t.asked last.state ≡ true → seen_text (seen_of last) ≡ ending.seen.items
+    → leads_by t.asked t.start order ≡ Some last → is_ending t.asked last.state ≡ true → seen_text false (seen_of last) ≡ ending.seen.items
     → length ending.order.items ≤ length order
 
 -- **Whole**: wherever an order ends, what is seen there is told.

@@ -110,7 +110,7 @@ fn see(
         Err(answer) => return Err(unplayed(answer)),
     };
     let mut seen = Vec::new(alloc);
-    put_seen(&mut seen, &state, &trail.console)?;
+    put_seen(&mut seen, &state, &trail, false)?;
     add(endings, node, seen, order)?;
     Ok(())
 }

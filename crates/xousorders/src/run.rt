@@ -121,6 +121,7 @@ fn quest_of<H: Host>(
         quantum,
         bound: None,
         once,
+        exits: true,
     };
     let subject = Subject {
         plan,

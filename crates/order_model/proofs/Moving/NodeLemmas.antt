@@ -21,10 +21,11 @@ use Rattle.order_model.proofs.SliceLemmas.{slice_from_any_turn}
 use Rattle.order_model.specs.declared.moves.Move.{Move}
 use Rattle.order_model.specs.declared.moves.Move.TheVariants.{Once, Slice}
 use Rattle.order_model.specs.Counts.{IsUncounted, slice_from, with_count}
+use Rattle.order_model.specs.Exits.{exits_on}
 use Rattle.order_model.specs.Moves.{Asked, Bound, Point, Unbounded, UpTo, behind, leads, may_come, most_within, what_comes, with_come}
 use Rattle.order_model.specs.Nodes.{NodesLeadAlike, after, goes_on, node_of, set_aside}
 use Rattle.order_model.proofs.Counting.SliceLemmas.{slice_forgets}
-use Rattle.order_model.proofs.Moving.EventLemmas.{IsAside, bytes_numbered, killed_aside, raised_aside}
+use Rattle.order_model.proofs.Moving.EventLemmas.{IsAside, killed_aside, raised_aside, same_bytes, same_ends, whats_numbered}
 
 -- the count of steps that a node leaves in a state
 abbrev count_in : Bound → Machine → ℕ
@@ -46,23 +47,24 @@ unclaimed : (o : Option Claim) → (if is_some o then false else true) ≡ true 
 unclaimed None e = refl
 unclaimed (Some claim) e = absurd (false≢true e)
 
-module _ (quantum : ℕ) (once : List Event) where
+module _ (quantum : ℕ) (once : List Event) (exits : Bool) where
   abbrev asks : Bound → Asked
-  asks bound = record { quantum = quantum; bound = bound; once = once }
+  asks bound = record { quantum = quantum; bound = bound; once = once; exits = exits }
 
   -- what was done leads to one node
   behind_alike : (bound : Bound) (steps : ℕ) (p : Point) (x y : Recorded) → IsAside steps x y → IsCountOf bound steps y.machine
-      → node_of (asks bound) (behind (node_of (asks bound) p) x) ≡ node_of (asks bound) (behind p y)
+      → node_of (asks bound) (behind (asks bound) (node_of (asks bound) p) x) ≡ node_of (asks bound) (behind (asks bound) p y)
   behind_alike bound steps p x y same count = λ i. record p {
     state = aside_alike bound steps x.machine y.machine same.machine count i;
-    console = p.console ++ same.bytes i;
+    console = p.console ++ same_bytes x.records y.records same.whats i;
+    exits = exits_on p.exits (same_ends exits x.records y.records same.whats i);
   }
 
   -- ---- slices
 
   turned_aside : (n : ℕ) (s : SliceOf) → IsAside (n + s.done) (turned (slice_from n s)) (turned s)
   unfolding turn
-  turned_aside n s = record { machine = refl; bytes = bytes_numbered (n + s.done) s.records }
+  turned_aside n s = record { machine = refl; whats = whats_numbered (n + s.done) s.records }
 
   if_alike : (bound : Bound) (test : Bool) (p q : Point) → node_of (asks bound) p ≡ node_of (asks bound) q
       → option_map (node_of (asks bound)) (if test then Some p else None) ≡ option_map (node_of (asks bound)) (if test then Some q else None)
@@ -71,23 +73,23 @@ module _ (quantum : ℕ) (once : List Event) where
 
   abbrev then_leads : Bound → Point → Bool → ℕ → SliceOf → Option Point
   then_leads bound p free steps s =
-      option_map (node_of (asks bound)) (if free && (s.done == steps) then Some (behind p (turned s)) else None)
+      option_map (node_of (asks bound)) (if free && (s.done == steps) then Some (behind (asks bound) p (turned s)) else None)
 
   module _ (p : Point) (who : ThreadId) (steps : ℕ) where
     slice_unbounded : Matched p.state → IsUncounted p.state → (ready : Bool) → ready_at p.state who ≡ ready
-        → option_map (node_of (asks Unbounded)) (if ready && (true && ((slice quantum who (set_aside Unbounded p.state)).done == steps)) then Some (behind (node_of (asks Unbounded) p) (turned (slice quantum who (set_aside Unbounded p.state)))) else None)
-        ≡ option_map (node_of (asks Unbounded)) (if ready && (true && ((slice quantum who p.state).done == steps)) then Some (behind p (turned (slice quantum who p.state))) else None)
+        → option_map (node_of (asks Unbounded)) (if ready && (true && ((slice quantum who (set_aside Unbounded p.state)).done == steps)) then Some (behind (asks Unbounded) (node_of (asks Unbounded) p) (turned (slice quantum who (set_aside Unbounded p.state)))) else None)
+        ≡ option_map (node_of (asks Unbounded)) (if ready && (true && ((slice quantum who p.state).done == steps)) then Some (behind (asks Unbounded) p (turned (slice quantum who p.state))) else None)
     slice_unbounded h none false e = refl
     slice_unbounded h none true e =
         let s = slice quantum who p.state in
         ap (then_leads Unbounded (node_of (asks Unbounded) p) true steps)
         (slice_from_any_turn quantum who (id_at 0) (with_count 0 p.state) e ∙ slice_forgets quantum 0 who p.state h none e)
-        ∙ if_alike Unbounded (s.done == steps) (behind (node_of (asks Unbounded) p) (turned (slice_from 0 s))) (behind p (turned s))
+        ∙ if_alike Unbounded (s.done == steps) (behind (asks Unbounded) (node_of (asks Unbounded) p) (turned (slice_from 0 s))) (behind (asks Unbounded) p (turned s))
         (behind_alike Unbounded (0 + s.done) p (turned (slice_from 0 s)) (turned s) (turned_aside 0 s) tt)
 
     slice_bounded : (bound most : ℕ) (free ready : Bool) → ready_at p.state who ≡ ready
-        → option_map (node_of (asks (UpTo bound))) (if ready && (free && ((slice most who (set_aside (UpTo bound) p.state)).done == steps)) then Some (behind (node_of (asks (UpTo bound)) p) (turned (slice most who (set_aside (UpTo bound) p.state)))) else None)
-        ≡ option_map (node_of (asks (UpTo bound))) (if ready && (free && ((slice most who p.state).done == steps)) then Some (behind p (turned (slice most who p.state))) else None)
+        → option_map (node_of (asks (UpTo bound))) (if ready && (free && ((slice most who (set_aside (UpTo bound) p.state)).done == steps)) then Some (behind (asks (UpTo bound)) (node_of (asks (UpTo bound)) p) (turned (slice most who (set_aside (UpTo bound) p.state)))) else None)
+        ≡ option_map (node_of (asks (UpTo bound))) (if ready && (free && ((slice most who p.state).done == steps)) then Some (behind (asks (UpTo bound)) p (turned (slice most who p.state))) else None)
     slice_bounded bound most free false e = refl
     slice_bounded bound most free true e =
         let s = slice most who p.state in
@@ -113,7 +115,7 @@ module _ (quantum : ℕ) (once : List Event) where
   killed_count (UpTo bound) pid p = sym (kill_steps pid p.state)
 
   abbrev then_comes : Bound → ℕ → Point → Option Recorded → Option Point
-  then_comes bound k p o = option_map (node_of (asks bound)) (option_map (λ done. with_come k (behind p done)) o)
+  then_comes bound k p o = option_map (node_of (asks bound)) (option_map (λ done. with_come k (behind (asks bound) p done)) o)
 
   come_alike : (bound : Bound) (k : ℕ) (p : Point) (x y : Recorded) → IsAside (count_in bound p.state) x y
       → IsCountOf bound (count_in bound p.state) y.machine
@@ -167,4 +169,4 @@ module _ (quantum : ℕ) (once : List Event) where
       ∙ move_leads bound p move h goes
 
 pub nodes_lead_alike : NodesLeadAlike
-nodes_lead_alike asked p move h goes = after_alike asked.quantum asked.once asked.bound p move h goes
+nodes_lead_alike asked p move h goes = after_alike asked.quantum asked.once asked.exits asked.bound p move h goes

@@ -66,13 +66,13 @@ module _ (asked : Asked) where
   move_keeps p next (Once k) h e = by_event (may_come asked k p) e
     where
       by_done : (event : Event) (o : Option Recorded) → what_comes event p.state ≡ o
-          → option_map (λ done. with_come k (behind p done)) o ≡ Some next → Matched next.state
+          → option_map (λ done. with_come k (behind asked p done)) o ≡ Some next → Matched next.state
       by_done event None q f = absurd (none-some next f)
       by_done event (Some done) q f =
-          subst (λ (x : Point). Matched x.state) (same_Some (with_come k (behind p done)) next f) (comes_keeps event p.state done h q)
+          subst (λ (x : Point). Matched x.state) (same_Some (with_come k (behind asked p done)) next f) (comes_keeps event p.state done h q)
 
       by_event : (o : Option Event)
-          → option_map (λ done. with_come k (behind p done)) (option_and_then (λ event. what_comes event p.state) o) ≡ Some next
+          → option_map (λ done. with_come k (behind asked p done)) (option_and_then (λ event. what_comes event p.state) o) ≡ Some next
           → Matched next.state
       by_event None f = absurd (none-some next f)
       by_event (Some event) f = by_done event (what_comes event p.state) refl f

@@ -20,6 +20,8 @@ use Rattle.order_model.specs.Slices.{turned}
 use Rattle.order_model.proofs.SliceLemmas.{slice_counts, slice_plays}
 use Rattle.order_model.specs.declared.moves.Move.{Move}
 use Rattle.order_model.specs.declared.moves.Move.TheVariants.{Once, Slice}
+use Rattle.order_model.proofs.ExitLemmas.{exits_on-append, exits_on-none, kept_ends-append, kept_ends-none}
+use Rattle.order_model.specs.Exits.{exits_on, kept_ends}
 use Rattle.order_model.specs.Moves.{Asked, Point, behind, byte_of_what, bytes_of, events_of, events_of_move, is_at_bound, is_slice, leads}
 use Rattle.order_model.specs.Moves.{leads_by, most_steps, slice_at, what_comes, with_come}
 use Rattle.order_model.specs.Orders.{OrdersArePlayed}
@@ -41,15 +43,16 @@ module _ (asked : Asked) (limit : ℕ) where
     pub records : List Rec
     pub is : history events limit p.state ≡ record { records = records; machine = next.state; met = false }
     pub console : next.console ≡ p.console ++ bytes_of records
+    pub exits : next.exits ≡ exits_on p.exits (kept_ends asked.exits records)
 
   -- ---- slices
 
   pub slice_is : (p next : Point) (who : ThreadId) (steps : ℕ) → leads asked p (Slice who steps) ≡ Some next
-      → (ready_at p.state who ≡ true) × ((slice_at asked who p.state).done ≡ steps) × (behind p (turned (slice_at asked who p.state)) ≡ next)
+      → (ready_at p.state who ≡ true) × ((slice_at asked who p.state).done ≡ steps) × (behind asked p (turned (slice_at asked who p.state)) ≡ next)
   unfolding leads
   slice_is p next who steps e =
       let s = slice_at asked who p.state in
-      let is = taken (is_slice asked who steps p.state) (behind p (turned s)) next e in
+      let is = taken (is_slice asked who steps p.state) (behind asked p (turned s)) next e in
       let tests = parts (ready_at p.state who) (not (is_at_bound asked.bound p.state)) (s.done == steps) is.0 in
       (tests.0, eqb-true s.done steps tests.1, is.1)
 
@@ -68,10 +71,11 @@ module _ (asked : Asked) (limit : ℕ) where
       let done : s.done ≡ steps = is.1 in
       let fits : p.state.steps + s.done ≤ limit = omega (arith, counts, done, within) in
       subst (λ (x : Point). Plays (Pick who.pid who.tid ∷ Tick steps ∷ []) p x) is.2
-      (subst (λ k. Plays (Pick who.pid who.tid ∷ Tick k ∷ []) p (behind p (turned s))) done (record {
+      (subst (λ k. Plays (Pick who.pid who.tid ∷ Tick k ∷ []) p (behind asked p (turned s))) done (record {
         records = s.records;
         is = slice_plays (most_steps asked p.state) limit who p.state is.0 fits;
         console = refl;
+        exits = refl;
       }))
 
   -- ---- events
@@ -104,15 +108,15 @@ module _ (asked : Asked) (limit : ℕ) where
   once_moves p next k e = by_came (p.came k) (slice_get asked.once k) refl e
     where
       by_done : (event : Event) (o : Option Recorded) → what_comes event p.state ≡ o
-          → option_map (λ done. with_come k (behind p done)) o ≡ Some next → Plays (event ∷ []) p next × (p.state.steps ≤ next.state.steps)
+          → option_map (λ done. with_come k (behind asked p done)) o ≡ Some next → Plays (event ∷ []) p next × (p.state.steps ≤ next.state.steps)
       by_done event None q f = absurd (none-some next f)
       by_done event (Some done) q f =
           let plays = comes_plays event p.state done q in
-          subst (λ (x : Point). Plays (event ∷ []) p x × (p.state.steps ≤ x.state.steps)) (same_Some (with_come k (behind p done)) next f)
-          (record { records = done.records; is = plays.0; console = refl }, plays.1)
+          subst (λ (x : Point). Plays (event ∷ []) p x × (p.state.steps ≤ x.state.steps)) (same_Some (with_come k (behind asked p done)) next f)
+          (record { records = done.records; is = plays.0; console = refl; exits = refl }, plays.1)
 
       by_came : (came : Bool) (o : Option Event) → slice_get asked.once k ≡ o
-          → option_map (λ done. with_come k (behind p done))
+          → option_map (λ done. with_come k (behind asked p done))
           (option_and_then (λ event. what_comes event p.state) (if came then None else o)) ≡ Some next
           → Plays (option_map_or (λ event. event ∷ []) o []) p next × (p.state.steps ≤ next.state.steps)
       by_came true o q f = absurd (none-some next f)
@@ -168,6 +172,11 @@ module _ (asked : Asked) (limit : ℕ) where
         ∙ (ap (λ bytes. bytes ++ bytes_of rest.records) first.console
         ∙ (append_assoc p.console (bytes_of first.records) (bytes_of rest.records)
         ∙ ap (λ bytes. p.console ++ bytes) (sym (flat_map-append (λ (told : Rec). byte_of_what told.what) first.records rest.records))));
+    exits =
+        rest.exits
+        ∙ (ap (λ exits. exits_on exits (kept_ends asked.exits rest.records)) first.exits
+        ∙ (exits_on-append p.exits (kept_ends asked.exits first.records) (kept_ends asked.exits rest.records)
+        ∙ ap (exits_on p.exits) (sym (kept_ends-append asked.exits first.records rest.records))));
   }
 
   order_plays : (order : List Move) (p last : Point) → leads_by asked p order ≡ Some last → last.state.steps ≤ limit
@@ -175,7 +184,12 @@ module _ (asked : Asked) (limit : ℕ) where
   unfolding leads_by
   order_plays [] p last e within =
       subst (Plays [] p) (same_Some p last e)
-      (record { records = []; is = history_none limit p.state; console = sym (append-nil p.console) })
+      (record {
+        records = [];
+        is = history_none limit p.state;
+        console = sym (append-nil p.console);
+        exits = sym (ap (exits_on p.exits) (kept_ends-none asked.exits) ∙ exits_on-none p.exits);
+      })
   order_plays (move ∷ order) p last e within =
       let b = begins p last move order e in
       let rest : b.next.state.steps ≤ last.state.steps = order_counts order b.next last b.then_ in
@@ -185,4 +199,4 @@ module _ (asked : Asked) (limit : ℕ) where
 pub orders_are_played : OrdersArePlayed
 orders_are_played asked order limit p last e within =
     let plays = order_plays asked limit order p last e within in
-    record { records = plays.records; is = plays.is; console = plays.console }
+    record { records = plays.records; is = plays.is; console = plays.console; exits = plays.exits }

@@ -15,10 +15,10 @@ play_steps-requires-clause-few g c =
 
 pub returns-clause-plays : goal.returns-clause-plays
 returns-clause-plays g c trusted =
-    let old : Shown = shown g.W.SwapStore c.args.kernel.now c.args.console.now.items in
-    let mid : Shown = shown g.W.SwapStore c.event_start.new.self c.args.console.now.items in
-    let last : Shown = shown g.W.SwapStore c.play_steps.new.kernel c.play_steps.new.console.items in
-    let new : Shown = shown g.W.SwapStore c.end_turn.new.self c.play_steps.new.console.items in
+    let old : Shown = shown g.W.SwapStore c.args.kernel.now c.args.trail.now in
+    let mid : Shown = shown g.W.SwapStore c.event_start.new.self c.args.trail.now in
+    let last : Shown = shown g.W.SwapStore c.play_steps.new.kernel c.play_steps.new.trail in
+    let new : Shown = shown g.W.SwapStore c.end_turn.new.self c.play_steps.new.trail in
     let still = stays_trusted g.W.SwapStore c.args.kernel.now c.event_start.new.self c.event_start.ensures.keeps ∙ trusted in
-    slice_played c.args.quantum c.in_ok-left.left c.args.who old mid last new c.event_start.ensures.does.machine refl (c.in_ok-left.ensures.plays still)
+    slice_played c.args.keeps c.args.quantum c.in_ok-left.left c.args.who old mid last new c.event_start.ensures.does.machine refl (c.in_ok-left.ensures.plays still)
     c.end_turn.ensures.machine refl

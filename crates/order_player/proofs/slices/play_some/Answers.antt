@@ -10,11 +10,11 @@ use Rattle.order_player.proofs.slices.play_some.Goals as goal
 
 pub returns-then-quiet-most-clause-plays : goal.returns-then-quiet-most-clause-plays
 returns-then-quiet-most-clause-plays g c trusted =
-    let old : Shown = shown g.W.SwapStore c.args.kernel.now c.args.console.now.items in
-    let mid : Shown = shown g.W.SwapStore c.run_quiet.new.self c.args.console.now.items in
+    let old : Shown = shown g.W.SwapStore c.args.kernel.now c.args.trail.now in
+    let mid : Shown = shown g.W.SwapStore c.run_quiet.new.self c.args.trail.now in
     let runs = c.in-Ok.ensures.runs (trusted_knows g.W.SwapStore c.args.kernel.now c.run_quiet.new.self trusted c.run_quiet.ensures.keeps) in
     let same : c.in-Ok.quiet ≡ c.args.most = omega (arith, c.if-quiet-most.true) in
-    quiet_all c.args.most old mid (subst (λ n. GoesQuietly n old.machine mid.machine) same runs.steps) refl
+    quiet_all c.args.keeps c.args.most old mid (subst (λ n. GoesQuietly n old.machine mid.machine) same runs.steps) refl
 
 pub play_loud-requires-clause-few : goal.play_loud-requires-clause-few
 play_loud-requires-clause-few g c =
@@ -24,13 +24,13 @@ play_loud-requires-clause-few g c =
 
 pub returns-clause-plays : goal.returns-clause-plays
 returns-clause-plays g c trusted =
-    let old : Shown = shown g.W.SwapStore c.args.kernel.now c.args.console.now.items in
-    let mid : Shown = shown g.W.SwapStore c.run_quiet.new.self c.args.console.now.items in
-    let new : Shown = shown g.W.SwapStore c.play_loud.new.kernel c.play_loud.new.console.items in
+    let old : Shown = shown g.W.SwapStore c.args.kernel.now c.args.trail.now in
+    let mid : Shown = shown g.W.SwapStore c.run_quiet.new.self c.args.trail.now in
+    let new : Shown = shown g.W.SwapStore c.play_loud.new.kernel c.play_loud.new.trail in
     let runs = c.in-Ok.ensures.runs (trusted_knows g.W.SwapStore c.args.kernel.now c.run_quiet.new.self trusted c.run_quiet.ensures.keeps) in
     let still = stays_trusted g.W.SwapStore c.args.kernel.now c.run_quiet.new.self c.run_quiet.ensures.keeps ∙ trusted in
-    IfOk-weaker c.play_loud.result _ (PlaysSome c.args.most old new)
-    (λ part plays. quiet_some c.in-Ok.quiet c.args.most part old mid new runs.steps c.in-Ok.ensures.most refl plays) (c.play_loud.ensures.plays still)
+    IfOk-weaker c.play_loud.result _ (PlaysSome c.args.keeps c.args.most old new)
+    (λ part plays. quiet_some c.args.keeps c.in-Ok.quiet c.args.most part old mid new runs.steps c.in-Ok.ensures.most refl plays) (c.play_loud.ensures.plays still)
 
 pub returns-clause-fewer : goal.returns-clause-fewer
 returns-clause-fewer g c =

@@ -16,9 +16,9 @@ play_some-requires-clause-few g c =
 
 pub steps-preserved : goal.steps-preserved
 steps-preserved g c =
-    let mid : Shown = shown g.W.SwapStore c.steps.kernel c.steps.console.items in
-    let new : Shown = shown g.W.SwapStore c.play_some.new.kernel c.play_some.new.console.items in
-    let P : Part → Type 0 = λ part. PlaysSome c.steps.left mid new part in
+    let mid : Shown = shown g.W.SwapStore c.steps.kernel c.steps.trail in
+    let new : Shown = shown g.W.SwapStore c.play_some.new.kernel c.play_some.new.trail in
+    let P : Part → Type 0 = λ part. PlaysSome c.args.keeps c.steps.left mid new part in
     let F : Part → Type 0 = λ part. IsFewer c.steps.left part in
     let C : Part → Type 0 = λ part. part_left part + c.play_some.new.kernel.steps ≤ c.steps.left + c.steps.kernel.steps in
     let less : F (On c.in-On.rest) = subst F c.in-On.is c.in_ok-rest.ensures.fewer in
@@ -32,20 +32,21 @@ steps-preserved g c =
       few = omega (arith, counts, c.steps.invariant.few);
       sound = c.play_some.ensures.sound;
       usable = c.in_ok-rest.ensures.usable;
+      came = c.play_some.ensures.came ∙ c.steps.invariant.came;
       keeps = kept_after g.W.SwapStore c.args.kernel.now c.steps.kernel c.play_some.new.kernel c.steps.invariant.keeps c.play_some.ensures.keeps;
     }
 
 pub returns-in-Over-clause-plays : goal.returns-in-Over-clause-plays
 returns-in-Over-clause-plays g c trusted =
-    let mid : Shown = shown g.W.SwapStore c.steps.kernel c.steps.console.items in
-    let new : Shown = shown g.W.SwapStore c.play_some.new.kernel c.play_some.new.console.items in
-    let P : Part → Type 0 = λ part. PlaysSome c.steps.left mid new part in
+    let mid : Shown = shown g.W.SwapStore c.steps.kernel c.steps.trail in
+    let new : Shown = shown g.W.SwapStore c.play_some.new.kernel c.play_some.new.trail in
+    let P : Part → Type 0 = λ part. PlaysSome c.args.keeps c.steps.left mid new part in
     let still = stays_trusted g.W.SwapStore c.args.kernel.now c.steps.kernel c.steps.invariant.keeps ∙ trusted in
     let over : P (Over c.in-Over.rest) = subst P c.in-Over.is (c.in_ok-rest.ensures.plays still) in
     c.steps.invariant.plays trusted c.in-Over.rest new over
 
 pub returns-clause-plays : goal.returns-clause-plays
 returns-clause-plays g c trusted =
-    let mid : Shown = shown g.W.SwapStore c.steps.kernel c.steps.console.items in
+    let mid : Shown = shown g.W.SwapStore c.steps.kernel c.steps.trail in
     let none : 0 ≡ c.steps.left = omega (arith, c.steps-test.false) in
-    c.steps.invariant.plays trusted 0 mid (subst (λ n. AreSteps n mid 0 mid) none (none_left mid))
+    c.steps.invariant.plays trusted 0 mid (subst (λ n. AreSteps c.args.keeps n mid 0 mid) none (none_left c.args.keeps mid))

@@ -1,4 +1,4 @@
-use Rattle.std.proofs.Common.{◌≤◌, ◌+◌, ℕ}
+use Rattle.std.proofs.Common.{◌≡◌, ◌≤◌, ◌+◌, ℕ}
 use Rattle.xk_kernel.specs.Knowing.{IsTrusted}
 use Rattle.xk_kernel.specs.Sound.{IsSound, IsUsable, Keeps}
 use Rattle.order_player.specs.Played.{shown}
@@ -9,12 +9,13 @@ use Rattle.order_player.proofs.slices.play_steps.Given as goal
 abbrev pub invariant-steps : goal.invariant-steps
 invariant-steps g l = record {
   plays : IsTrusted g.W.SwapStore l.fn.kernel → (left : ℕ) (last : Shown)
-      → AreSteps l.left (shown g.W.SwapStore l.kernel l.console.items) left last
-      → AreSteps l.most (shown g.W.SwapStore l.fn.kernel l.fn.console.items) left last;
+      → AreSteps l.keeps l.left (shown g.W.SwapStore l.kernel l.trail) left last
+      → AreSteps l.keeps l.most (shown g.W.SwapStore l.fn.kernel l.fn.trail) left last;
   fewer : l.left ≤ l.most;
   few : l.left + l.kernel.steps ≤ l.most + l.fn.kernel.steps;
   sound : IsSound g.W.SwapStore l.kernel;
   usable : IsUsable l.kernel;
+  came : l.trail.came ≡ l.fn.trail.came;
   keeps : Keeps g.W.SwapStore l.fn.kernel l.kernel;
 }
 

@@ -9,16 +9,16 @@ pub returns-then-counts : goal.returns-then-counts
 returns-then-counts c asked p told =
     let bytes : List ℕ = c.args.bytes.now in
     let front : List ℕ = (take 8 (drop 16 bytes) ++ take 4 (drop 24 bytes)) ++ CURSOR in
-    let T : Bool → Type 0 = λ b. IsToldOf asked p bytes b c.args.came.now c.args.console.now in
+    let T : Bool → Type 0 = λ b. IsToldOf asked p bytes b c.args.beside.now c.args.console.now in
     c.digest_of.ensures
-    ∙ (ap (λ (rest : List ℕ). sha256 (((front ++ rest) ++ c.args.came.now) ++ c.args.console.now)) (rest_whole bytes)
-    ∙ ap sha256 (key_counted asked p bytes c.args.came.now c.args.console.now (subst T c.if-counts.true told)))
+    ∙ (ap (λ (rest : List ℕ). sha256 (((front ++ rest) ++ c.args.beside.now) ++ c.args.console.now)) (rest_whole bytes)
+    ∙ ap sha256 (key_counted asked p bytes c.args.beside.now c.args.console.now (subst T c.if-counts.true told)))
 
 pub returns-else-counts : goal.returns-else-counts
 returns-else-counts c asked p told =
     let bytes : List ℕ = c.args.bytes.now in
     let front : List ℕ = (take 8 (drop 16 bytes) ++ NO_STEPS) ++ CURSOR in
-    let T : Bool → Type 0 = λ b. IsToldOf asked p bytes b c.args.came.now c.args.console.now in
+    let T : Bool → Type 0 = λ b. IsToldOf asked p bytes b c.args.beside.now c.args.console.now in
     c.digest_of-else-counts.ensures
-    ∙ (ap (λ (rest : List ℕ). sha256 (((front ++ rest) ++ c.args.came.now) ++ c.args.console.now)) (rest_whole bytes)
-    ∙ ap sha256 (key_uncounted asked p bytes c.args.came.now c.args.console.now (subst T c.if-counts.false told)))
+    ∙ (ap (λ (rest : List ℕ). sha256 (((front ++ rest) ++ c.args.beside.now) ++ c.args.console.now)) (rest_whole bytes)
+    ∙ ap sha256 (key_uncounted asked p bytes c.args.beside.now c.args.console.now (subst T c.if-counts.false told)))

@@ -25,8 +25,8 @@ returns-then-has_message c file =
     c.loop-server.server-index c.loop-server.invariant.rest row ((server_of row).sid, Queued) c.loop-server-test.true c.server-item.is
     (queued_there c.args.number row there) in
     subst (λ (xs : List ℕ). OnOk c.put_name.result (c.put_name.new.text.items ≡ xs))
-    (two_pieces c.args.text.now.items (codes " queued at ") (name_text (record { 0 = row.sid })) c.put.new.text.items _
-    (c.in_ok-put.ensures ∙ ap (λ (xs : List ℕ). xs ++ codes " queued at ") c.loop-server.invariant.text) refl
+    (two_pieces c.args.text.now.items (codes ", queued at ") (name_text (record { 0 = row.sid })) c.put.new.text.items _
+    (c.in_ok-put.ensures ∙ ap (λ (xs : List ℕ). xs ++ codes ", queued at ") c.loop-server.invariant.text) refl
     ∙ ap (λ (o : Option (Sid × Kept)). c.args.text.now.items ++ kept_text o) (sym kept))
     c.put_name.ensures
 
@@ -41,8 +41,8 @@ returns-then-has_message-2 c file =
     c.loop-server.server-index c.loop-server.invariant.rest row ((server_of row).sid, Held) c.loop-server-test.true c.server-item.is
     (held_there c.args.number row not_queued there) in
     subst (λ (xs : List ℕ). OnOk c.put_name-then-has_message-2.result (c.put_name-then-has_message-2.new.text.items ≡ xs))
-    (two_pieces c.args.text.now.items (codes " held at ") (name_text (record { 0 = row.sid })) c.put-then-has_message-2.new.text.items _
-    (c.in_ok-put-2.ensures ∙ ap (λ (xs : List ℕ). xs ++ codes " held at ") c.loop-server.invariant.text) refl
+    (two_pieces c.args.text.now.items (codes ", held at ") (name_text (record { 0 = row.sid })) c.put-then-has_message-2.new.text.items _
+    (c.in_ok-put-2.ensures ∙ ap (λ (xs : List ℕ). xs ++ codes ", held at ") c.loop-server.invariant.text) refl
     ∙ ap (λ (o : Option (Sid × Kept)). c.args.text.now.items ++ kept_text o) (sym kept))
     c.put_name-then-has_message-2.ensures
 

@@ -47,7 +47,7 @@ returns-clause-adds c =
     let stand = c.in-Ok.ensures.stands told.last (ap (leads_by q.asked q.start) (c.deref-2.ensures.value ∙ labels) ∙ told.leads) in
     node_told t c.args.node _ _ c.args.endings.now _ c.requires.ends labels
     (shown_there t c.args.node told _ _ c.new-seen.ensures.items
-    (c.in_ok-put_seen.ensures told.last stand.file stand.rows (sym stand.console ∙ sym c.deref-3.ensures.value)))
+    (c.in_ok-put_seen.ensures told.last stand))
     c.in_ok-add.ensures
 
 pub returns-in-Err-clause-stopped : goal.returns-in-Err-clause-stopped

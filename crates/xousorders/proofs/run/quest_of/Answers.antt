@@ -52,6 +52,7 @@ returns-in-Ok-begin_alone-clause-asked g c =
       quantum = refl;
       bound = refl;
       once = refl;
+      exits = refl;
     })
 
 pub returns-clause-stops : goal.returns-clause-stops
@@ -72,6 +73,7 @@ returns-clause-stops g c steps =
       quantum = refl;
       bound = refl;
       once = refl;
+      exits = refl;
     }) in
     stopped_stops files asking steps _ c.in-Ok.quest.subject c.in-Ok.quest.subject asked (inl refl) _
     (c.unplayed.ensures c.in-Ok.quest.subject c.in-Err-begin_alone.ensures.fault)

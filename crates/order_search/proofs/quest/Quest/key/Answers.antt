@@ -1,6 +1,4 @@
 use Rattle.std.proofs.Common.{◌∙◌, ap, refl}
-use Rattle.std.specs.Prelude.{map}
-use Rattle.order_search.specs.Keys.{came_byte}
 use Rattle.order_model.specs.Asking.{asked_of}
 use Rattle.suspend_image.specs.Sheets.{SheetBytes}
 use Rattle.suspend_image.specs.StateBytes.{saved_bytes}
@@ -17,9 +15,8 @@ node_key-requires c = record {
 pub returns-clause-key : goal.returns-clause-key
 returns-clause-key c =
     c.node_key.ensures (asked_of c.args.self.now.subject.orders) _
-    (told_of (asked_of c.args.self.now.subject.orders) _ _ _ c.as_slice.result.now c.deref-2.result.now c.deref-3.result.now c.is_some-counts.result
+    (told_of (asked_of c.args.self.now.subject.orders) _ _ _ _ c.as_slice.result.now c.deref.result.now c.deref-2.result.now c.is_some-counts.result
     (c.as_slice.ensures
     ∙ (ap (λ (sheet : SheetBytes). sheet.bytes) (c.in-Ok.ensures.saved refl) ∙ ap saved_bytes (c.save.ensures.machine.whole refl)))
     (c.is_some-counts.ensures ∙ bounded c.args.self.now.subject.orders.bound)
-    (c.deref-2.ensures.value ∙ (c.in-Ok-came_bytes.ensures ∙ ap (map came_byte) c.deref.ensures.value))
-    c.requires.came c.deref-3.ensures.value)
+    (c.deref.ensures.value ∙ c.in-Ok-beside_bytes.ensures) c.requires.came c.deref-2.ensures.value)

@@ -14,7 +14,7 @@ rows-rows-requires-clause-reserved c =
 pub returns-in-Ok-clause-stands : goal.returns-in-Ok-clause-stands
 returns-in-Ok-clause-stands c p arrives =
     stands (asked_of c.args.self.now.subject.orders) (start_of c.args.self.now.subject) c.args.order.now p _ _ _ arrives c.in_ok-run.ensures.arrives
-    c.in-Ok.ensures.rows refl (λ k. refl)
+    c.in-Ok.ensures.rows refl (λ k. refl) (λ pid. refl)
 
 pub returns-then-steps-gt-STEP_LIMIT-clause-fault : goal.returns-then-steps-gt-STEP_LIMIT-clause-fault
 returns-then-steps-gt-STEP_LIMIT-clause-fault c =
