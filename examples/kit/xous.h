@@ -114,4 +114,18 @@ static inline void xous_print(volatile char *console, const char *text)
         *console = *text++;
 }
 
+/* The exit word of a process whose check failed. xous_need has the numbers of errors, and 101 is a panic of Rust. */
+#define XOUS_CHECK_FAILED 121u
+
+/* What has to hold in each order of the threads: else the process ends by XOUS_CHECK_FAILED, which a search of the
+ * orders tells (docs/orders.md). The number of the line keeps the compiler from making one of two checks. */
+#define xous_check(condition)                                                           \
+    do {                                                                                \
+        if (!(condition)) {                                                             \
+            xous_call(XOUS_TERMINATE_PROCESS, XOUS_CHECK_FAILED, 0, 0, 0, 0, 0, 0);     \
+            __asm__ volatile("" : : "i"(__LINE__));                                     \
+            __builtin_unreachable();                                                    \
+        }                                                                               \
+    } while (0)
+
 #endif

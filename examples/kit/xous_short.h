@@ -30,6 +30,7 @@ typedef xous_word word;
 
 #define map_console(...) xous_map_console(__VA_ARGS__)
 #define print(...) xous_print(__VA_ARGS__)
+#define check(...) xous_check(__VA_ARGS__)
 #define map_memory(...) xous_map_memory(__VA_ARGS__)
 #define yield(...) xous_yield(__VA_ARGS__)
 #define claim_interrupt(...) xous_claim_interrupt(__VA_ARGS__)
@@ -108,6 +109,7 @@ typedef xous_word word;
 #define LENGTH XOUS_LENGTH
 #define OFFSET XOUS_OFFSET
 #define VALID XOUS_VALID
+#define CHECK_FAILED XOUS_CHECK_FAILED
 #define MAP_MEMORY XOUS_MAP_MEMORY
 #define YIELD XOUS_YIELD
 #define CLAIM_INTERRUPT XOUS_CLAIM_INTERRUPT

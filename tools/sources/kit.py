@@ -114,7 +114,7 @@ typedef xous_word word;
 """
 INNER = ("xous_call", "xous_end_by_error")  # functions that others of the kit call
 TYPE = re.compile(r"^(?:struct|enum) xous_(\w+) \{", re.M)
-FUNCTION = re.compile(r"^(?:XOUS_INLINE|XOUS_CHECKED|static) .*?\b(xous_\w+)\(", re.M)
+FUNCTION = re.compile(r"^(?:#define|XOUS_INLINE|XOUS_CHECKED|static) .*?\b(xous_\w+)\(", re.M)
 NUMBER = re.compile(r"^(?:    XOUS_(\w+) = \d+,|#define XOUS_(\w+) (?:0[xX][0-9A-F]+u|\d+u|XOUS_SERVER\(.*\))$)", re.M)
 
 

@@ -15,7 +15,7 @@ OTHERS = ("riscv64-", "riscv32-", "llvm-", "clang", "gdb", "lldb", "chrom", "goo
 # Tests that need something; those alone that are quick without it.
 NAMES = ("test_any_bytes", "test_assembled", "test_charts.Charts.test_p", "test_commands", "test_demangle", "test_gdb.Gdb", "test_kit.")
 NAMES += ("test_lines", "test_lldb", "test_machines", "test_programs", "test_project.Projects", "test_readme", "test_release", "test_runner")
-NAMES += ("test_shake.Shipped", "test_view.Command.test_s", "test_where", "test_workflow")
+NAMES += ("test_shake.Shipped", "test_view.Command.test_s", "test_where", "test_why", "test_workflow")
 HIDE = "import sys\nsys.path[:] = [each for each in sys.path if not each.endswith('dist-packages')]\n"
 
 

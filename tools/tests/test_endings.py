@@ -22,6 +22,7 @@ LEND, FAULT = EXAMPLES / "lend", EXAMPLES / "fault"
 TOOLS_BY_MODULE = {
     "view": "xous-view",
     "where": "xous-where",
+    "why": "xous-why",
     "shake": "xous-shake",
     "image": "xous-image",
     "state": "xous-state",
@@ -82,6 +83,10 @@ class Words(Case):
             ("where", (*run, "0"), 2, "0 is no step limit; give a number, 1 to 4000000000"),
             ("where", (*run, "5", "16385"), 2, "16385 is no number of slots; give a number, 0 to 16384"),
             ("where", (FAULT / "expected", FAULT / "events"), 1, "fault/expected: image fault NotXArg at 0"),
+            ("why", (LEND / "events", LEND / "events"), 1, "lend/events: image fault TooShort at 0"),
+            ("why", (*run, "--elf", "9=none.elf"), 1, "none.elf: No such file or directory"),
+            ("why", (*run, "--elf", "none.elf"), 1, "none.elf: no process of the image is named none; say --elf PID=none.elf"),
+            ("why", (LEND / "image",), 2, "the following arguments are required: EVENTS"),
             ("gdb", (*run, "--elf", "²=x"), 2, "² is no pid"),
             ("gdb", (*run, "--listen", "65536"), 2, "65536 is no port; give a number, 0 to 65535"),
             ("view", ("--from", "²"), 2, "² is no step"),

@@ -32,6 +32,7 @@ PLAYED = {
     "lowest": ("*(volatile word *)FIRST_STACK = 1; *(volatile word *)HANDLER_STACK = 1;", "", None),
     "handler": ("*(volatile word *)(HANDLER_STACK - 4) = 1;", "", "2.2 fault 15 7efffffc"),
     "refused": (f"{CONSOLE} volatile char *second; return open_console(&second);", "", "2.2 call 00000016 00000004"),
+    "checked": ("volatile word one = 1; check(one == 1); check(one == 2);", "", "2.2 call 00000016 00000079"),
     "needed": (f"{CONSOLE} volatile char *second; need(open_console(&second));", "", "2.2 call 00000016 00000004"),
 }
 EARLY = "static volatile int early; __attribute__((KIND)) static void set(void) { early = 7; }"

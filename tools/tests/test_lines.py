@@ -78,6 +78,21 @@ class Lines(Case):
         self.addCleanup(program.close)
         return program.symbol("store")[0]
 
+    def test_checks(self):
+        """Two checks of a function keep lines of their own, whatever the compiler makes one of elsewhere."""
+        need("clang", "ld.lld")
+        for words in ([], ["CC=clang"]):
+            made, _, _ = kit.new(self.folder / f"checks{len(words)}", "two", "volatile word one = 1;\n check(one == 1);\n check(one == 2);\n check(one == 3);\n")
+            status, said = kit.make(made, *words)
+            self.assertEqual(status, 0, said)
+            told = subprocess.run(["riscv64-unknown-elf-objdump", "-d", made / "out" / "two.elf"], capture_output=True, text=True, check=True).stdout
+            program = symbols.Program(str(made / "out" / "two.elf"))
+            self.addCleanup(program.close)
+            calls = [int(line.split(":")[0], 16) for line in told.splitlines() if line.endswith("ecall")]
+            found = {program.spot(address).line for address in calls if program.spot(address).file == "two.c"}
+            lines = (made / "two.c").read_text().splitlines()
+            self.assertEqual(found, {number for number, line in enumerate(lines, 1) if "check(" in line}, words)
+
     def test_clang(self):
         need("clang", "ld.lld")
         made = self.made("CC=clang", line="out/stores.elf: CFLAGS += -gdwarf-5")

@@ -8,6 +8,9 @@ import tempfile
 from xous.commands.test_orders import asked_of, parser, search, write_orders
 from xous.machine import MOST_STEPS
 from xous.runs import events, found, orders
+from xous.runs.ended import EXITED, FAULT, KILLED, Ended
+from xous.runs.seen import Seen, Standing
+from xous.states.state import JOINING, RECEIVING, WAITING
 from xous.transcripts import decode
 
 from .frame import EXAMPLES, GIVEN, Case, need_program, need_searcher
@@ -29,31 +32,32 @@ def stored():
 # A search's lines, and some of other form: which line is exchanged for what.
 
 SAMPLE = """states 26 slices 38 whole
-ending 1: console 4f6b0a; 2 waits: 2.2 receives at fill; 3 gone; 1 node; 12 slices
-ending 2: console empty; 2 gone; 3 gone; 2 nodes; 1 slice
+ending 1: console "Ok\\n"; 2 waits: 2.2 receives at fill; 3 exited 0; 1 node; 12 slices
+ending 2: console "; 2 \\" gone"; 2 fault 15 at 60000000; 3 killed; 2 nodes; 1 slice
 2 endings"""
 READ = found.Found(
     26,
     38,
     True,
     (
-        found.Ending("console 4f6b0a; 2 waits: 2.2 receives at fill; 3 gone", 1, 12),
-        found.Ending("console empty; 2 gone; 3 gone", 2, 1),
+        found.Ending('console "Ok\\n"; 2 waits: 2.2 receives at fill; 3 exited 0', 1, 12),
+        found.Ending('console "; 2 \\" gone"; 2 fault 15 at 60000000; 3 killed', 2, 1),
     ),
 )
 OTHER_FORMS = {
     "no word for how it ended": ("38 whole", "38"),
     "another word for how it ended": ("whole", "done"),
     "a number that is left out": ("states 26", "states"),
-    "an ending of another number": ("ending 2", "ending 3"),
-    "an ending that is left out": ("ending 2: console empty; 2 gone; 3 gone; 2 nodes; 1 slice\n", ""),
-    "an ending that is told twice": ("console empty; 2 gone", "console 4f6b0a; 2 waits: 2.2 receives at fill"),
+    "an ending of another number": ("ending 2:", "ending 3:"),
+    "an ending that is told twice": ('console "; 2 \\" gone"; 2 fault 15 at 60000000; 3 killed', 'console "Ok\\n"; 2 waits: 2.2 receives at fill; 3 exited 0'),
     "another count of endings": ("2 endings", "3 endings"),
     "one of several": ("2 nodes", "2 node"),
-    "several of one": ("1 slice\n", "1 slices\n"),
+    "several of one": ("1 slice\n2", "1 slices\n2"),
     "no order": ("; 12 slices", ""),
-    "a console that is left out": ("console empty; ", ""),
+    "a console that is left out": ('console "Ok\\n"; ', ""),
     "a bound without its steps": ("whole", "whole within"),
+    "a console in digits": ('"Ok\\n"', "4f6b0a"),
+    "a line behind the last one": ("2 endings", "2 endings\nfails"),
 }
 # What isn't the same, and in how many things it differs.
 OTHER_SEARCHES = {
@@ -61,9 +65,10 @@ OTHER_SEARCHES = {
     "a slice more": (("slices 38", "slices 39"), 1),
     "a search that was cut": (("whole", "cut"), 1),
     "a bound of steps": (("whole", "whole within 9 steps"), 1),
-    "another ending": (("4f6b0a", "4f6b"), 2),
+    "another ending": (("Ok", "O"), 2),
     "a node more of an ending": (("1 node;", "2 nodes;"), 1),
     "an order that isn't the shortest": (("12 slices", "13 slices"), 1),
+    "another cause of a fault": (("fault 15", "fault 13"), 2),
 }
 
 
@@ -78,7 +83,7 @@ def checks_of_reading():
     """Lines of searches are read as what they tell, and lines of other forms aren't."""
     one = found.read(SAMPLE.splitlines())
     yield one == READ, f"a search's lines are read: {one}"
-    yield [ending.console for ending in one.endings] == [b"Ok\n", b""], "the console of an ending"
+    yield [ending.console for ending in one.endings] == [b"Ok\n", b'; 2 " gone'], "the console of an ending"
     yield [ending.gone for ending in one.endings] == [{3}, {2, 3}], "who is gone in an ending"
     for name, (old, new) in OTHER_FORMS.items():
         yield SAMPLE.count(old) == 1 and not is_read(SAMPLE.replace(old, new)), f"a search's lines with {name}"
@@ -89,6 +94,31 @@ def checks_of_reading():
     yield list(found.differences(one, turned)) == [], "the order in which endings are told doesn't matter"
     for words, lines in stored():
         yield found.read(lines).lines() == lines, f"the stored lines of {words}"
+
+
+# What is seen of an ending.
+
+STOOD = Seen(
+    b"total 3\n",
+    {
+        2: [Standing(2, 1, RECEIVING, server="a"), Standing(2, 3, WAITING, server="b", message=7, kept="held")],
+        3: None,
+        4: [Standing(4, 2, JOINING, joined=3)],
+        5: None,
+        6: None,
+        7: None,
+        8: None,
+    },
+    {3: Ended(EXITED, (0,)), 5: Ended(FAULT, (15, 0x6000_0000)), 6: Ended(KILLED), 7: Ended(EXITED, (121,))},
+)
+
+def checks_of_seen():
+    """What is seen is told as xousorders tells it."""
+    text = (
+        'console "total 3\\n"; 2 waits: 2.1 receives at a, 2.3 waits, held at b; 3 exited 0; 4 waits: 4.2 joins 4.3; '
+        "5 fault 15 at 60000000; 6 killed; 7 exited 121; 8 gone"
+    )
+    yield STOOD.text() == text, f"what is seen: {STOOD.text()}"
 
 
 # What a file of events plays.
@@ -103,24 +133,24 @@ def seen_of_trace(program, image, path):
     return console, {record.pid for record in records if record.what == decode.GONE}
 
 
-def checks_of_played(program, image, ending, path, name):
+def checks_of_played(program, image, asked, ending, path, name):
     """An event file leads to what was seen of the ending, by the transcript and by the last state, and has its slices."""
     yield seen_of_trace(program, image, path) == (ending.console, ending.gone), f"{name}: its transcript"
     played, bad = events.read(path.read_bytes())
     with tempfile.TemporaryDirectory() as folder:
-        again = orders.Search(program, str(image), orders.Asked(), folder)
-        seen = orders.seen(again.visited(again.played(played)))
+        again = orders.Search(program, str(image), asked, folder)
+        seen = orders.seen(again.visited(again.played(played))).text()
     yield bad is None and seen == ending.seen, f"{name}: its last state is {seen}"
 
 
-def checks_of_orders(program, image, told, folder, words):
+def checks_of_orders(program, image, asked, told, folder, words):
     """The event files of the endings, each with so many slices as is told."""
     for number, ending in enumerate(told.endings, 1):
         path = pathlib.Path(folder, f"ending-{number}.events")
         name = f"orders of {words}: the events of ending {number}"
         picks = sum(event.name == "pick" for event in events.read(path.read_bytes())[0])
         yield picks == ending.slices, f"{name}: {picks} slices"
-        yield from checks_of_played(program, image, ending, path, name)
+        yield from checks_of_played(program, image, asked, ending, path, name)
 
 
 # The searches.
@@ -137,27 +167,29 @@ def checks_of_search(program, is_long):
         if wanted.states > FEW and not is_long:
             continue
         image, given, _ = given_of(program, words)
-        told, endings = search(program, str(image), asked_of(given))
+        asked = asked_of(given)
+        told, endings = search(program, str(image), asked)
         yield told == wanted, f"orders of {words}: {list(found.differences(wanted, told)) or 'endings in another order'}"
         with tempfile.TemporaryDirectory() as folder:
             write_orders(folder, endings)
-            yield from checks_of_orders(program, image, told, folder, words)
+            yield from checks_of_orders(program, image, asked, told, folder, words)
 
 
 def checks_of_searcher(program, searcher):
     """The program xousorders tells the same as is stored, and the event files that it writes lead to the endings."""
     for words, lines in stored():
-        image, _, options = given_of(program, words)
+        image, given, options = given_of(program, words)
+        wanted = found.read(lines)
         with tempfile.TemporaryDirectory() as folder:
             command = [searcher, str(image), *options, "--write", folder]
             ran = subprocess.run(command, capture_output=True, text=True, check=False)
-            if ran.returncode or not is_read(ran.stdout):
+            if ran.returncode != 0 or not is_read(ran.stdout):
                 yield False, f"xousorders {words}: status {ran.returncode}: {ran.stdout[-200:]}{ran.stderr}"
                 continue
             told = found.read(ran.stdout.splitlines())
-            differing = list(found.differences(found.read(lines), told))
+            differing = list(found.differences(wanted, told))
             yield not differing, f"xousorders {words}: {differing}"
-            yield from checks_of_orders(program, image, told, folder, f"xousorders {words}")
+            yield from checks_of_orders(program, image, asked_of(given), told, folder, f"xousorders {words}")
 
 
 # The words of a call, how it ends, and what it writes.
@@ -218,6 +250,9 @@ def checks_of_calls(searcher):
 class Orders(Case):
     def test_reading(self):
         self.hold(checks_of_reading())
+
+    def test_seen(self):
+        self.hold(checks_of_seen())
 
     def test_searches(self):
         self.hold(checks_of_search(need_program(), GIVEN.is_long))

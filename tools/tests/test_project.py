@@ -1,4 +1,4 @@
-"""Projects of xous-new --c and --rust, and the kit's script for their tests: over stand-ins, and over the programs where they are given.
+"""Projects of xous-new, and the kit's script for their tests: over stand-ins, and over the programs where they are given.
 
 That a service for continuous integration can run a project's tests is in test_workflow.py.
 """
@@ -11,10 +11,11 @@ from .frame import COMPILER, EXAMPLES, GIVEN, TOOLS, Case, is_there, need, need_
 SCRIPT = EXAMPLES / "kit" / "test"
 # A search that finds so many endings, of which it writes the files.
 SEARCH = """#!/bin/sh
+echo "$*" >searched
 while [ "$1" != --write ]; do shift; done
 echo 'states 4 slices 6 WHOLE'
 for ending in ENDINGS; do
-    echo "ending $ending: console 3$ending; 1 node; 2 slices"
+    echo "ending $ending: console \\"$ending\\"; 1 node; 2 slices"
     echo 'tick 20000' >"$2/ending-$ending.events"
 done
 echo 'COUNT'
@@ -51,8 +52,8 @@ class Script(Case):
         (self.folder / name).write_text(text)
         (self.folder / name).chmod(0o755)
 
-    def search(self, whole="whole", endings="1", status=0):
-        self.program("xousorders", search(whole, endings, status))
+    def search(self, **given):
+        self.program("xousorders", search(**given))
 
     def start(self, *words, **more):
         programs = {"XOUSIM": "./xousim", "XOUSORDERS": "./xousorders", "ELFS": "--elf 2=out/mine.elf", "PATH": "/usr/bin:/bin"}
@@ -62,6 +63,7 @@ class Script(Case):
 
     def holds_commands(self, said, events, words=None):
         self.assertIn(f"event file: {events}\n", said)
+        self.assertIn(f"  why:      {TOOLS}/xous-why mine.img {words or events} --elf 2=out/mine.elf\n", said)
         self.assertIn(f"./xousim trace mine.img {words or events} | {TOOLS}/xous-view --image mine.img --chart chart.html\n", said)
         self.assertIn(f"-ex 'target remote | {TOOLS}/xous-gdb mine.img {words or events} --elf 2=out/mine.elf'\n", said)
 
@@ -89,23 +91,26 @@ class Script(Case):
         self.assertIn("make it by `make expected`", said)
 
     def test_one_ending(self):
-        self.search()
-        wanted = (0, "mine.img: 1 ending in all orders (states 4 slices 6 whole)\n")
-        self.assertEqual(self.start("orders", "mine.img", "orders"), wanted)
+        for whole in ("whole", "whole within 100000 steps"):
+            self.search(whole=whole)
+            wanted = (0, f"mine.img: 1 ending in all orders (states 4 slices 6 {whole})\n")
+            self.assertEqual(self.start("orders", "mine.img", "orders", "--quantum", "1"), wanted)
+            self.assertEqual((self.folder / "searched").read_text(), "mine.img --one --write orders --quantum 1\n")
 
     def test_two_endings(self):
         self.search(endings="1 2", status=1)
-        status, said = self.start("orders", "mine.img", "orders", "--quantum", "1")
+        status, said = self.start("orders", "mine.img", "orders")
         self.assertEqual(status, 1)
         self.assertIn("mine.img: its orders have more than one ending\n", said)
         self.holds_commands(said, "orders/ending-1.events")
         self.holds_commands(said, "orders/ending-2.events")
 
     def test_a_search_that_was_cut(self):
-        self.search(whole="cut")
-        status, said = self.start("orders", "mine.img", "orders")
-        self.assertEqual(status, 2)
-        self.assertIn("--states 1000000", said)
+        for whole in ("cut", "cut within 100000 steps"):
+            self.search(whole=whole)
+            status, said = self.start("orders", "mine.img", "orders")
+            self.assertEqual(status, 2)
+            self.assertIn("--states 1000000", said)
 
     def test_a_search_that_fails(self):
         self.search(status=9)
@@ -121,7 +126,7 @@ class Script(Case):
 
     def test_commands_alone(self):
         status, said = self.start("commands", "mine.img", "events")
-        self.assertEqual((status, said.count("\n")), (0, 3))
+        self.assertEqual((status, said.count("\n")), (0, 4))
         self.holds_commands(said, "events")
 
     def test_other_words(self):
@@ -147,10 +152,14 @@ class Projects(Case):
         path.write_text(text.replace(old, new))
 
     def run_commands(self, said, folder):
-        """The commands that are named last are run as they are written: one draws a chart, and the other starts gdb."""
-        commands = [line.split(":", 1)[1].strip() for line in said.splitlines() if line.startswith(("  chart: ", "  debugger: "))]
-        self.assertGreaterEqual(len(commands), 2, said)
-        chart, debugger = commands[-2:]
+        """The commands that are named last are run as they are written: one tells why, one draws a chart, and one starts gdb."""
+        named = ("  why: ", "  chart: ", "  debugger: ")
+        commands = [line.split(":", 1)[1].strip() for line in said.splitlines() if line.startswith(named)]
+        self.assertGreaterEqual(len(commands), 3, said)
+        why, chart, debugger = commands[-3:]
+        told = subprocess.run(["sh", "-c", why], cwd=folder, env=environment(), capture_output=True, text=True, check=False)
+        self.assertEqual((told.returncode, told.stderr), (0, ""))
+        self.assertIn("the last turns", told.stdout)
         (folder / "chart.html").unlink(missing_ok=True)
         drawn = subprocess.run(["sh", "-c", chart], cwd=folder, env=environment(), capture_output=True, text=True, check=False)
         self.assertEqual(drawn.returncode, 0, drawn.stderr)
@@ -183,6 +192,19 @@ class Projects(Case):
         made = self.tool("xous-new", self.folder / "mine", "--c", "--rust")
         self.assertEqual(made.returncode, 2)
         self.assertFalse((self.folder / "mine").exists())
+
+    def test_orders_of_a_plain_program(self):
+        """`make orders` in the folder of xous-new without a kind, over a stand-in for xousorders."""
+        need("make", COMPILER)
+        made, searcher = self.folder / "mine", self.folder / "search"
+        self.assertEqual(self.tool("xous-new", made).returncode, 0)
+        for endings, status in (("1", 0), ("1 2", 1)):
+            searcher.write_text(search(endings=endings, status=status))
+            searcher.chmod(0o755)
+            ended, said = self.make(made, f"XOUSORDERS={searcher}", "SEARCH=--quantum 1", "orders")
+            self.assertEqual((ended, "1 ending in all orders" in said), (2 * status, status == 0), said)
+            self.assertEqual("/xous-why mine.img out/orders/ending-2.events --elf 2=out/mine.elf\n" in said, status == 1, said)
+            self.assertIn(" --quantum 1\n", (made / "searched").read_text())
 
     def test_a_project_in_c(self):
         need("make", COMPILER)
@@ -233,15 +255,15 @@ class Projects(Case):
         self.check_failures_in_rust(made)
 
     def check_failures_in_rust(self, made):
-        """A unit test, the transcript, and the orders: each that fails names its event file, and two commands. Two endings are those
-        of a stand-in, since a search with a second thread of std takes minutes."""
+        """A unit test, the transcript, and the orders: each that fails names its event file, and the commands. Two endings are
+        those of a stand-in, since a search with a second thread of std takes minutes."""
         source, searcher = made / "src" / "main.rs", self.folder / "two-endings"
         searcher.write_text(search(endings="1 2", status=1))
         searcher.chmod(0o755)
         for target, old, new, events in (
             ("test-units", "42);", "41);", r".*/target/xous/mine-[0-9a-f]+\.tests\.the_answer\.1\.events"),
             ("test-transcript", "six times seven", "seven times six", "target/xous/mine.events"),
-            (f"XOUSORDERS={searcher} test-orders", "six times seven", "6 times 7", "target/xous/orders/ending-1.events"),
+            (f"XOUSORDERS={searcher} orders", "six times seven", "6 times 7", "target/xous/orders/ending-1.events"),
         ):
             with self.subTest(target):
                 kept = source.read_text()

@@ -206,7 +206,7 @@ class Releases(unittest.TestCase):
     def test_what_it_has(self):
         """Both programs, the tools, the kits for C and Rust, examples, pages, man pages and completions."""
         for path in (
-            *(f"bin/{name}" for name in (*PROGRAMS, "xous-view", "xous-image", "xous-gdb", "xous-where", "xous-new", "xous-state", "xous-events")),
+            *(f"bin/{name}" for name in (*PROGRAMS, "xous-view", "xous-image", "xous-gdb", "xous-where", "xous-why", "xous-new", "xous-state", "xous-events")),
             *(f"lib/xousim/{name}" for name in PROGRAMS),
             *(f"share/xousim/examples/kit/{name}" for name in ("kit.mk", "xous.h", "test", "new/workflow.yml", "rust/cargo", "rust/xous/src/lib.rs")),
             *(f"share/doc/xousim/{name}" for name in ("README.md", "docs/tutorial.md", "examples/lend/image", "PROVED", "copyright")),

@@ -67,6 +67,18 @@ class Runner(Case):
                 self.assertTrue(told.startswith(sentence) and told.count("\n") == bool(sentence), told)
                 self.assertTrue("here: " not in sentence and "what: " not in sentence or where in told, told)
 
+    def test_search(self):
+        """`cargo orders`: the words are those of xousorders, and more than one ending names what looks into it."""
+        self.stand_in("")
+        script = '#!/bin/sh\necho "$*" >searched\ntouch target/xous/orders/ending-1.events\necho states 1 slices 0 whole\necho 1 ending\nexit '
+        for status, text in ((0, "mine.img: 1 ending in all orders (states 1 slices 0 whole)\n"), (1, "/xous-why target/xous/mine.img target/xous/orders/ending-1.events")):
+            searcher = self.write("xousorders", f"{script}{status}\n", True)
+            ended, out, said = self.play("--quantum", "1", XOUS_SEARCH="1", XOUSORDERS=str(searcher))
+            self.assertEqual((ended, said), (status, ""))
+            self.assertIn(text, out)
+            words = "target/xous/mine.img --one --write target/xous/orders --quantum 1\n"
+            self.assertEqual((self.folder / "searched").read_text(), words)
+
     def test_settings_that_make_no_sense(self):
         self.stand_in(TERMINATES.format(0))
         table = "[package.metadata.xous]\n"

@@ -11,6 +11,7 @@ import time
 from xous.images import layout
 from xous.release import layout as release
 from xous.runs import events, orders
+from xous.runs.found import GONE, read
 from xous.shaking import schedules
 from xous.shaking.outcomes import USUAL_SEE, failures, rules_of
 from xous.shaking.playing import Player
@@ -70,7 +71,12 @@ def is_gone(group):
     return False
 
 
-LOST = {'console "3"; 2 exit 0': "", 'console "1"; 2 exit 1': "2 exit 1", 'console "2"; 2 exit 1': "2 exit 1"}
+def gone_of(told):
+    """What is seen of each ending, where it isn't told what a process ended with: before a search began, that isn't known."""
+    return {GONE.sub(r"\1 gone", ending.seen) for ending in told.endings}
+
+
+LOST = {'console "3"; 2 exited 0': "", 'console "1"; 2 exited 1': "2 exited 1", 'console "2"; 2 exited 1': "2 exited 1"}
 
 
 class StandIn(Shaken):
@@ -116,15 +122,15 @@ class StandIn(Shaken):
 
     def test_limit(self):
         told = self.shake(self.image, "--steps", "20", "--runs", "10")
-        self.assertEqual(self.endings(told), {"step limit; console empty": ""})
+        self.assertEqual(self.endings(told), {'step limit; console ""': ""})
         self.assertIn("1 ending in 10 runs; 0 runs failed, 10 runs met the step limit\n", told)
         self.assertIn("; fails: step limit\n", self.shake(self.image, "--steps", "20", "--runs", "1", "--fails", "limit", status=1))
 
     def test_what_is_seen(self):
         told = self.shake(self.image, "--steps", "1000", "--runs", "60", "--see", "exits", status=1)
-        self.assertEqual(self.endings(told), {"2 exit 0": "", "2 exit 1": "2 exit 1"})
-        told = self.shake(self.image, "--steps", "1000", "--runs", "60", "--fails", "console 2", "--fails", "without 3", status=1)
-        self.assertEqual(list(self.endings(told).values()), ["", "without 3", "console 2, without 3"])
+        self.assertEqual(self.endings(told), {"2 exited 0": "", "2 exited 1": "2 exited 1"})
+        told = self.shake(self.image, "--steps", "1000", "--runs", "60", "--fails", "console=2", "--fails", "console-not=3", status=1)
+        self.assertEqual(list(self.endings(told).values()), ["", "console-not=3", "console=2, console-not=3"])
 
     def test_seconds(self):
         began = time.monotonic()
@@ -265,32 +271,32 @@ class Played(Shaken):
     def test_lost_sum(self):
         for kind in schedules.KINDS:
             told = self.shake(ORDERS / "lost.image", "--runs", "300", "--kind", kind)
-            self.assertEqual(set(self.endings(told)), {f'console "{sum_}"; 2 exit 0' for sum_ in (1, 2, 3)}, kind)
+            self.assertEqual(set(self.endings(told)), {f'console "{sum_}"; 2 exited 0' for sum_ in (1, 2, 3)}, kind)
 
     def test_lost_key(self):
         """The store of two threads: a key is lost, an addition is lost, and nobody prints. Each kind of schedule finds a lost key."""
         folder = self.folder / "made"
         told = self.shake(ORDERS / "store.image", "--runs", "120", "--kind", "turns", "--write", folder, status=1)
         found = self.endings(told)
-        right = 'console "3 keys, total 2\\n"; 2 waits: 2.2 receives at store, 2.3 receives at store; 3 exit 0; 4 exit 0'
+        right = 'console "3 keys, total 2\\n"; 2 waits: 2.2 receives at store, 2.3 receives at store; 3 exited 0; 4 exited 0'
         self.assertEqual(found[right], "")
-        for part in ("3 exit 1", "4 exit 1", "total 1\\n", "console empty"):
+        for part in ("3 exited 1", "4 exited 1", "total 1\\n", 'console ""'):
             self.assertTrue(any(part in text for text in found), (part, found))
         self.holds_files(ORDERS / "store.image", folder, told)
         for kind, runs in (("picks", 60), ("pct", 200)):
             told = self.shake(ORDERS / "store.image", "--runs", runs, "--kind", kind, status=1)
-            self.assertTrue(any("exit 1" in fails for fails in self.endings(told).values()), kind)
+            self.assertTrue(any("exited 1" in fails for fails in self.endings(told).values()), kind)
 
     def test_lost_update(self):
         """The tally in Rust over std: an addition is lost, by each kind of schedule, and a small file loses it."""
         folder = self.folder / "made"
-        words = (ORDERS / "tally.image", "--fails", "without total 6 of 6")
+        words = (ORDERS / "tally.image", "--fails", "console-not=total 6 of 6")
         for kind in schedules.KINDS:
             told = self.shake(*words, "--runs", "12", "--kind", kind, status=1)
             self.assertTrue(any("total 5 of 6" in text for text in self.endings(told)), (kind, told))
         told = self.shake(*words, "--kind", "turns", "--seed", "2", "--runs", "1", "--write", folder, status=1)
         self.assertIn("total 5 of 6", told)
-        self.holds_files(ORDERS / "tally.image", folder, told, ("without total 6 of 6",))
+        self.holds_files(ORDERS / "tally.image", folder, told, ("console-not=total 6 of 6",))
 
     def test_any_number_of_jobs(self):
         words = (ORDERS / "store.image", "--runs", "60", "--fails", "none")
@@ -301,7 +307,7 @@ class Played(Shaken):
         start, folder = self.folder / "start.events", self.folder / "made"
         start.write_text("tick 30\npick 2 2\ntick 12\n")
         told = self.shake(ORDERS / "lost.image", "--runs", "120", "--from", start, "--write", folder, "--fails", "none")
-        self.assertEqual(set(self.endings(told)), {f'console "{sum_}"; 2 exit 0' for sum_ in (1, 2, 3)})
+        self.assertEqual(set(self.endings(told)), {f'console "{sum_}"; 2 exited 0' for sum_ in (1, 2, 3)})
         with tempfile.TemporaryDirectory() as own:
             player = Player(self.program, str(ORDERS / "lost.image"), 100_000, own)
             for number, text in enumerate(self.endings(told), 1):
@@ -312,10 +318,10 @@ class Played(Shaken):
         self.refused(1, "it meets the step limit of 1000 already", self.image, "--from", start, "--steps", "1000")
 
     def test_prefixes(self):
-        """The endings behind the prefixes together are those of the whole search."""
+        """The endings behind the prefixes together are those of the whole search. What ended within a prefix is told as gone."""
         for words, lines in stored():
             image, given, options = given_of(self.program, words)
-            whole = {line.split(": ", 1)[1].rsplit("; ", 2)[0] for line in lines[1:-1]}
+            whole = gone_of(read(lines))
             if int(lines[0].split()[1]) > FEW or "--kill" in options:
                 continue
             for count in (1, 3, 8):
@@ -330,7 +336,7 @@ class Played(Shaken):
                         asked = orders.Asked(given.quantum, first=events.read(path.read_bytes())[0])
                         told_of = orders.Search(self.program, str(image), asked, own).search().told()[0]
                     self.assertTrue(told_of.is_whole)
-                    found |= {ending.seen for ending in told_of.endings}
+                    found |= gone_of(told_of)
                 self.assertEqual(found, whole, (words, count))
 
     def test_prefixes_of_the_searcher(self):
@@ -339,10 +345,11 @@ class Played(Shaken):
         image = ORDERS / "deadlock.image"
         self.shake(image, "--prefixes", "6", "--write", folder)
         ran = subprocess.run([searcher, image], capture_output=True, text=True, check=True)
-        whole = {line.split(": ", 1)[1].rsplit("; ", 2)[0] for line in ran.stdout.splitlines()[1:-1]}
+        whole = gone_of(read(ran.stdout.splitlines()))
         found = set()
         for path in folder.iterdir():
             ran = subprocess.run([searcher, image, "--from", path], capture_output=True, text=True, check=True)
-            self.assertIn("whole", ran.stdout)
-            found |= {line.split(": ", 1)[1].rsplit("; ", 2)[0] for line in ran.stdout.splitlines()[1:-1]}
+            told_of = read(ran.stdout.splitlines())
+            self.assertTrue(told_of.is_whole)
+            found |= gone_of(told_of)
         self.assertEqual(found, whole)

@@ -5,15 +5,19 @@ import random
 import subprocess
 import sys
 
+from xous import names
 from xous.errors import Refusal
 from xous.runs import events, seen
 from xous.runs.acting import Stretch
+from xous.runs.ended import EXITED, FAULT, KILLED, Ended
+from xous.runs.seen import Standing, console_text
 from xous.shaking import findings, outcomes, schedules, smaller
 from xous.shaking.findings import Ending, Findings, Seeds
 from xous.shaking.jobs import Result
 from xous.shaking.outcomes import Reader, Rule
 from xous.shaking.plain import Plain, apart_of
 from xous.shaking.schedules import Priorities
+from xous.states.state import JOINING, READY, RECEIVING, WAITING
 
 from .frame import EXAMPLES, TOOLS, Case
 from .lost_machine import Machine
@@ -121,10 +125,10 @@ class Schedules(Case):
 class Outcomes(Case):
     def test_lend(self):
         outcome = Reader(2).outcome(LEND)
-        self.assertEqual(outcome.text(outcomes.USUAL_SEE), 'console "Ok\\n"; 2 waits: 2.2 receives at fill; 3 exit 0')
+        self.assertEqual(outcome.text(outcomes.USUAL_SEE), 'console "Ok\\n"; 2 waits: 2.2 receives at fill; 3 exited 0')
         self.assertEqual(outcome.text(("console",)), 'console "Ok\\n"; 3 gone')
         self.assertEqual(outcome.text(("servers",)), "3 gone; servers fill of 2")
-        self.assertEqual(outcome.seen.text(), "console 4f6b0a; 2 waits: 2.2 receives at fill; 3 gone")
+        self.assertEqual(outcome.seen.text(), 'console "Ok\\n"; 2 waits: 2.2 receives at fill; 3 exited 0')
 
     def test_a_transcript_in_two_parts(self):
         """What is seen behind a start is what is seen of the whole."""
@@ -137,9 +141,9 @@ class Outcomes(Case):
     def test_ends(self):
         """How processes end: by the fault and the exit words that the stored transcripts have."""
         for name, processes, text in (
-            ("fault/expected", 2, "3 fault 15"),
-            ("race/win.expected", 2, "2 exit 42"),
-            ("threads/expected", 1, "2 exit 0"),
+            ("fault/expected", 2, "3 fault 15 at 60000000"),
+            ("race/win.expected", 2, "2 exited 42"),
+            ("threads/expected", 1, "2 exited 0"),
         ):
             told = Reader(processes).outcome((EXAMPLES / name).read_bytes()).text(("exits",))
             self.assertIn(text, told, name)
@@ -156,13 +160,14 @@ class Outcomes(Case):
         outcome = Reader(2).outcome("\n".join([*lines, "end 6 done"]).encode())
         self.assertEqual(
             outcome.text(outcomes.USUAL_SEE),
-            "console empty; 2 waits: 2.2 waits for a message queued at r; 3 waits: 3.2 waits for a message queued at l",
+            'console ""; 2 waits: 2.2 waits, queued at r; 3 waits: 3.2 waits, queued at l',
         )
-        self.assertIn("2.2 waits for message 1 queued at r", outcome.text(outcomes.SEE))
+        self.assertIn("2.2 waits for message 1, queued at r", outcome.text(outcomes.SEE))
         self.assertIn("servers l of 2 (1 queued, 0 held), r of 3 (1 queued, 0 held)", outcome.text(outcomes.SEE))
         self.assertEqual(outcomes.failures(outcome, outcomes.rules_of(None)), "2.2 waits, 3.2 waits")
+        self.assertEqual(outcomes.failures(outcome, outcomes.rules_of(["waits=3", "waits=2.2", "waits=2.3"])), "3.2 waits, 2.2 waits")
         limited = Reader(2).outcome("\n".join([*lines, "end 6 limit"]).encode())
-        self.assertEqual(limited.text(outcomes.USUAL_SEE), "step limit; console empty")
+        self.assertEqual(limited.text(outcomes.USUAL_SEE), 'step limit; console ""')
         self.assertEqual(outcomes.failures(limited, outcomes.rules_of(None)), "")
         self.assertEqual(outcomes.failures(limited, outcomes.rules_of(["limit"])), "step limit")
 
@@ -176,28 +181,48 @@ class Outcomes(Case):
         for words, found in (
             (None, ["exit", "fault", "waits"]),
             (["exit,limit"], ["exit", "limit"]),
-            (["console a, b", "without c"], ["console a, b", "without c"]),
+            (["console=a, b", "console-not=c"], ["console=a, b", "console-not=c"]),
+            (["console a, b", "without c"], ["console=a, b", "console-not=c"]),
+            (["waits=2", "waits=3.2"], ["waits=2", "waits=3.2"]),
             (["none"], []),
             (["exit", "exit"], ["exit"]),
         ):
             self.assertEqual([rule.spelled() for rule in outcomes.rules_of(words)], found)
-        for word in ("", "exits", "console", "console ", "exit,all"):
+        for word in ("", "exits", "console", "console=", "console ", "exit,all", "waits=", "waits=1", "waits=66", "waits=2.0", "waits=2.32", "waits=2.", "waits=x"):
             self.assertRaisesRegex(Refusal, "--fails", outcomes.rules_of, [word])
 
     def test_failures(self):
         outcome = Reader(1).outcome(played(b"tick 9\ntick 1000\n"))
-        self.assertEqual(outcome.text(outcomes.USUAL_SEE), 'console "1"; 2 exit 1')
-        self.assertEqual(outcomes.failures(outcome, outcomes.rules_of(None)), "2 exit 1")
-        self.assertEqual(outcomes.failures(outcome, (Rule("console", "1"), Rule("without", "3"))), "console 1, without 3")
-        self.assertEqual(outcomes.failures(outcome, (Rule("console", "3"), Rule("without", "1"))), "")
+        self.assertEqual(outcome.text(outcomes.USUAL_SEE), 'console "1"; 2 exited 1')
+        self.assertEqual(outcomes.failures(outcome, outcomes.rules_of(None)), "2 exited 1")
+        self.assertEqual(outcomes.failures(outcome, (Rule("console", "1"), Rule("console-not", "3"))), "console=1, console-not=3")
+        self.assertEqual(outcomes.failures(outcome, (Rule("console", "3"), Rule("console-not", "1"))), "")
+
+    def test_who_fails(self):
+        """Each process by its exit or its fault, each thread that waits for good, and nobody while a thread is ready."""
+        processes = {
+            2: [Standing(2, 1, RECEIVING, server="a"), Standing(2, 3, WAITING, server="b", message=7, kept="held")],
+            3: None,
+            4: [Standing(4, 2, JOINING, joined=3)],
+            5: None,
+            6: None,
+            7: None,
+        }
+        ends = {3: Ended(EXITED, (0,)), 5: Ended(FAULT, (15, 0x6000_0000)), 6: Ended(KILLED), 7: Ended(EXITED, (121,))}
+        for also, waiting in (({}, ["2.3 waits, 4.2 waits", "4.2 waits", "2.3 waits", "", ""]), ({8: [Standing(8, 2, READY)]}, [""] * 5)):
+            outcome = outcomes.Outcome(seen.Seen(b"", processes | also, ends), 1, False)
+            words = ("exit", "fault", "waits", "waits=4", "waits=2.3", "waits=2.1", "waits=3")
+            told = [outcomes.failures(outcome, outcomes.rules_of([word])) for word in words]
+            self.assertEqual(told, ["7 exited 121", "5 fault 15 at 60000000", *waiting])
 
     def test_a_transcript_that_breaks_a_law(self):
         self.assertRaisesRegex(Refusal, "breaks a law", Reader(1).outcome, b"1 2.2 reply 00000000" + b" 00000000" * 7 + b"\nend 1 done\n")
         self.assertRaisesRegex(Refusal, "without a last line", Reader(1).outcome, b"")
 
     def test_console(self):
-        for console, text in ((b"", "empty"), (b'a"\n', '"a\\"\\n"'), (b"\x00a", "0061"), (b"\xff", "ff")):
-            self.assertEqual(outcomes.console_text(console), f"console {text}")
+        for console, text in ((b"", '""'), (b'a"\n', '"a\\"\\n"'), (b"\0\\\r\x7f\xff", '"\\x00\\\\\\r\\x7f\\xff"')):
+            self.assertEqual(console_text(console), f"console {text}")
+            self.assertEqual(names.unquoted(text[1:-1]), console)
 
 
 class SmallFiles(Case):

@@ -104,7 +104,7 @@ class Workflow(Case):
         path.write_text(path.read_text().replace("six times seven", "seven times six"))
         status, said = self.push()
         self.assertEqual(status, 2, said)
-        self.assertRegex(said, rf"event file: {events}\n  chart:    xousim trace .* \| xous-view .*\n  debugger: gdb-multiarch .* \| xous-gdb ")
+        self.assertRegex(said, rf"event file: {events}\n  why:      xous-why .*\n  chart:    xousim trace .* \| xous-view .*\n  debugger: gdb-multiarch .* \| xous-gdb ")
         self.assertTrue((self.folder / "clone" / events).exists())
 
     def test_a_project_in_c(self):

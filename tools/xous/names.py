@@ -80,6 +80,8 @@ MEMORY_RETURNED, NEW_SERVER = numbers.REPLIES["memory_returned"], numbers.REPLIE
 ERRORS = numbers.ERRORS
 SERVER_NOT_FOUND = next(number for number, name in ERRORS.items() if name == "ServerNotFound")
 
+CHECK_FAILED = 121  # the exit word of a failed check: XOUS_CHECK_FAILED of the kits
+
 FAULTS = {
     0: "jump to a misaligned address",
     2: "illegal instruction",
@@ -196,6 +198,11 @@ def error_name(number):
 def quoted(data):
     """Bytes of the console as one line, in quotes."""
     return '"' + data.decode("latin-1").encode("unicode_escape").decode("ascii").replace('"', '\\"') + '"'
+
+
+def unquoted(text: str) -> bytes:
+    """The bytes of a console that stand in such quotes."""
+    return text.encode("ascii").decode("unicode_escape").encode("latin-1")
 
 
 class Threads(dict):

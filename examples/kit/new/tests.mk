@@ -1,4 +1,3 @@
 
-# make test compares the transcript with the file expected, and searches the orders of the threads; make expected stores the transcript.
-IMAGE = NAME.img
+# make test compares the transcript with the file expected, and does make orders; make expected stores the transcript.
 include $(KIT)/test.mk

@@ -5,7 +5,8 @@
 
 The image has the servers that the package names and then the program. What these write to the console is written as
 it comes, and the exit word of the program is the status: 101 of a panic. Image and events stay in target/xous.
-XOUSIM names the program that plays; with XOUS_ORDERS=N each test is played under N orders of short turns.
+XOUSIM names the program that plays; with XOUS_ORDERS=N each test is played under N orders of short turns. With XOUS_SEARCH=1 the
+orders of the threads are searched by xousorders, whose words the WORDs are (`cargo orders`); there has to be one ending.
 """
 
 import json
@@ -286,10 +287,13 @@ class Machine:
         stem = f"{self.name}.{re.sub(r'[^0-9A-Za-z_]+', '.', test).strip('.')}"
         return self.folder / f"{stem}.img", self.folder / f"{stem}.{order}.events"
 
+    def make(self, image, words):
+        make_image(image, self.servers, self.program, self.settings, words)
+
     def play(self, words, test=None, order=None):
         """A run with these words, and its files."""
         image, events = self.files(test, order)
-        make_image(image, self.servers, self.program, self.settings, words)
+        self.make(image, words)
         if order:
             write_turns(events, turns_of_order(order), self.settings.steps)
         elif self.settings.events:
@@ -310,11 +314,22 @@ class Machine:
         where = shlex.join([f"{ROOT}/tools/xous-where", *known])
         return status_of(end, self.name, f"{image} or {events}", self.settings.steps, where)
 
-    def name_commands(self, files):
-        """Names the event file of a run that failed, and the two commands that look into that run."""
+    def test(self, *words, **how):
+        """The status of the kit's script for tests, by these words."""
         known = {"ELFS": self.elf(), "STEPS": str(self.settings.steps), "XOUSIM": str(self.xousim)}
         sys.stdout.flush()
-        subprocess.run([KIT.parent / "test", "commands", *files], env={**os.environ, **known}, stdout=sys.stderr, check=False)
+        return subprocess.run([KIT.parent / "test", *words], env={**os.environ, **known}, check=False, **how).returncode
+
+    def name_commands(self, files):
+        """Names the event file of a run that failed, and the commands that look into that run."""
+        self.test("commands", *files, stdout=sys.stderr)
+
+
+def search(machine, words):
+    """Searches the orders of the program's threads. What is said names files as the author does, who is in their package."""
+    image, _ = machine.files()
+    machine.make(image, [])
+    return machine.test("orders", os.path.relpath(image), os.path.relpath(machine.folder / "orders"), *words)
 
 
 def show(pieces):
@@ -390,6 +405,8 @@ def main(words):
     if not (orders.isascii() and orders.isdigit()):
         raise Refusal(f"XOUS_ORDERS={orders} is no number")
     machine = Machine(words[0])
+    if os.environ.get("XOUS_SEARCH"):
+        return search(machine, words[1:])
     if int(orders) and is_test(words[0]) and "--list" not in words:
         return run_orders(machine, words[1:], int(orders))
     return run(machine, words[1:])

@@ -15,11 +15,11 @@ USAGE = "xous-new FOLDER [--c | --rust]"
 DESCRIPTION = """Makes a folder with a program of your own: its source, a Makefile and a file of events.
 
 The program is named after the folder, which may lie anywhere and must not be there yet, or be empty. The Makefile names the
-folder that has the kit by its variable XOUS_CHECKOUT.
+folder that has the kit by its variable XOUS_CHECKOUT. `make orders` searches the orders of the threads: it fails if they
+end differently, and names the event file of each ending and the commands that look into that run.
 
 With --c or --rust it is a project with tests, in C or over Rust's std. `make expected` stores the transcript. `make test`
-compares each later run with it, and searches the orders of the threads. If a test fails, it names the event file and the two
-commands that look into that run: a chart, and a debugger. A file for GitHub has these tests run on each push."""
+compares each later run with it, and searches the orders. A file for GitHub has these tests run on each push."""
 EXAMPLE = "tools/xous-new mine && make -C mine run"
 # What the compilers need of Debian, for the service that runs the tests.
 OF_C = "make gcc-riscv64-unknown-elf"

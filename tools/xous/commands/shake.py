@@ -7,14 +7,13 @@ import hashlib
 import os
 import pathlib
 import re
-import shlex
-import shutil
 import sys
 import tempfile
 import time
 from collections.abc import Iterator
 
-from ..command import DONE, REFUSED, ROOT, Parser, decimal, version
+from ..causes.commands import commands_for
+from ..command import DONE, REFUSED, Parser, decimal, version
 from ..errors import Refusal
 from ..files import read_file, refuse_inputs, why, write_whole
 from ..machine import MOST_STEPS
@@ -97,7 +96,7 @@ def parser() -> Parser:
     words.add_argument("--from", dest="first", metavar="EVENTS", help="events that are played once, before all runs")
     see = "what is seen of an ending, of console,exits,waits,servers,numbers; the first three by default"
     words.add_argument("--see", type=see_of, default=outcomes.USUAL_SEE, metavar="WHAT", help=see)
-    fails = "a run with it fails: exit, fault, waits, limit, 'console TEXT', 'without TEXT' or none; the first three by default"
+    fails = "a run with it fails: exit, fault, waits, waits=PID.TID, limit, console=TEXT, console-not=TEXT or none; the first three by default"
     words.add_argument("--fails", action="append", metavar="WHAT", help=fails)
     words.add_argument("--write", metavar="DIR", help="a folder for an event file of each ending")
     words.add_argument("--json", metavar="FILE", help="a file for what was found")
@@ -142,21 +141,7 @@ def save(found: Findings, path: str | None) -> None:
         write_whole(path, found.to_json(), findings.is_findings, "findings of xous-shake")
 
 
-# The commands that look into a run.
-
-
-def spelled(name: str, path: str) -> str:
-    """A command as the author can type it."""
-    return name if shutil.which(name) else shlex.quote(path)
-
-
-def commands_for(image: str, path: str) -> Iterator[str]:
-    program = os.environ.get("XOUSIM") or str(ROOT / "xousim")
-    view, gdb = (spelled(name, str(ROOT / "tools" / name)) for name in ("xous-view", "xous-gdb"))
-    words = f"{shlex.quote(image)} {shlex.quote(path)}"
-    chart = f"{view} --image {shlex.quote(image)} --events {shlex.quote(path)} --chart chart.html"
-    yield f"  chart:    {spelled('xousim', program)} trace {words} | {chart}"
-    yield f"  debugger: gdb-multiarch -ex 'set osabi none' -ex {shlex.quote(f'target remote | {gdb} {words}')}"
+# What is told at the end.
 
 
 def told_of_files(found: Findings, folder: str | None, image: str | None) -> Iterator[str]:

@@ -21,8 +21,10 @@ LAST = "0xffffffff"  # an address after each that is asked for, whose answer end
 LINE = re.compile(r"(.*):([0-9]+)(?: \(discriminator [0-9]+\))?")
 
 
-# Sources whose functions stand in those of a program where they are inlined: headers of C, Rust's std, the kit's crate.
-LIBRARY = re.compile(r".*\.h|/rust/library/.*|(?:.*/)?examples/kit/rust/xous/.*")
+# Sources whose functions stand in those of a program where they are inlined: the kit, a C library, Rust's std; and other headers of C.
+LIBRARY = re.compile(r"(?:.*/)?examples/kit/(?:[^/]*\.h|rust/xous/.*)|/usr/(?:lib|include)/.*\.h|/rust/library/.*")
+HEADER = re.compile(r".*\.h")
+OF_SOURCE, OF_HEADER, OF_LIBRARY = range(3)
 
 
 @dataclass
@@ -32,10 +34,15 @@ class Spot:
     function: str
     file: str = ""
     line: int = 0
-    is_library: bool = False
+    rank: int = OF_SOURCE  # the reader looks for the lowest one
 
     def __str__(self) -> str:
         return f"{self.function} at {self.file}:{self.line}" if self.line else self.function
+
+
+def rank_of(path: str) -> int:
+    """Whose source a file is: a program's own, a header, or a library."""
+    return OF_LIBRARY if LIBRARY.fullmatch(path) else OF_HEADER if HEADER.fullmatch(path) else OF_SOURCE
 
 
 def find_tool() -> str | None:
@@ -97,6 +104,6 @@ class Lines:
         while (function := told.readline().rstrip("\n")) and function != LAST:
             match = LINE.fullmatch(told.readline().rstrip("\n"))
             if match and int(match[2]):
-                yield Spot(function, os.path.basename(match[1]), int(match[2]), LIBRARY.fullmatch(match[1]) is not None)
+                yield Spot(function, os.path.basename(match[1]), int(match[2]), rank_of(match[1]))
         told.readline()
         told.readline()

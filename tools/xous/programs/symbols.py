@@ -2,6 +2,8 @@
 
 A call of the kit is an inline function, so the address of its ECALL is a line of a header; so are many functions of Rust's
 std. What a reader asks for is the line of the program that called it: the first one, from the inside, that isn't a library's.
+A function of a library that isn't inlined has the line of its caller in ra, as long as it has called nothing itself. In a program
+over Rust's std each system call jumps to the kit's bridge, and gp says from where.
 """
 
 from __future__ import annotations
@@ -17,10 +19,12 @@ from ..images.named import plain
 from ..images.reading import bytes_of_sections
 from .demangle import readable
 from .elf import elf_library, read_program, refuse_other_files, symbol_rows
-from .lines import Lines, Spot
+from .lines import OF_LIBRARY, Lines, Spot
 
 NO_TYPE, OBJECT, FUNCTION = 0, 1, 2  # kinds of symbols
 UNDEFINED = 0
+RA, GP = 1, 3  # registers
+BRIDGE = "xous_kit", "xous_kit_end"
 
 
 def symbols_of(elf) -> Iterator[tuple[int, int, str]]:
@@ -82,15 +86,28 @@ class Program:
         return self.lines.frames(address) if self.lines is not None else []
 
     def own_frame(self, address: int) -> Spot | None:
-        """The first spot from the inside that isn't a library's; the innermost one in a function of a library itself."""
+        """The first spot from the inside in a source, else in a header of the program's own, else in a library."""
         frames = self.frames(address)
-        return next((spot for spot in frames if not spot.is_library), frames[0] if frames else None)
+        return min(frames, key=lambda spot: spot.rank) if frames else None
 
     def spot(self, address: int) -> Spot:
         """Where in the source an instruction is, as far as the program has that."""
         function = self.symbol_at(address) or f"{address:08x}"
         own = self.own_frame(address) or Spot(function)
-        return Spot(function, own.file, own.line) if own.function.startswith((".", "?")) else own
+        return Spot(function, own.file, own.line, own.rank) if own.function.startswith((".", "?")) else own
+
+    def is_bridge(self, address: int) -> bool:
+        """Whether it is in the code of the kit for Rust to which each system call jumps."""
+        first, last = self.symbol(BRIDGE[0]), self.symbol(BRIDGE[1])
+        return first is not None and last is not None and first[0] <= address < last[0]
+
+    def caller(self, address: int, registers: list[int]) -> Spot | None:
+        """The spot that called a library's function, by ra, or the bridge, by gp; none of an address in other code."""
+        back = [registers[GP]] if self.is_bridge(address) else []
+        if not back and self.spot(address).rank != OF_LIBRARY:
+            return None
+        found = (self.own_frame(place - 4) for place in (*back, registers[RA]) if place)
+        return next((spot for spot in found if spot and spot.rank != OF_LIBRARY), None)
 
     def text(self, address: int) -> str:
         """Symbol and line of an address as `<store+4 client.c:6>`, or nothing."""

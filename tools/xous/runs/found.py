@@ -4,9 +4,12 @@ import re
 from collections import Counter
 from dataclasses import dataclass
 
+from .. import names
+
 HEAD = re.compile(r"states (\d+) slices (\d+) (whole|cut)(?: within (\d+) steps)?").fullmatch
-ENDING = re.compile(r"ending (\d+): (console .*); (\d+ nodes?); (\d+ slices?)").fullmatch
-GONE = re.compile(r"(\d+) gone").fullmatch
+ENDING = re.compile(r'ending (\d+): (console ".*); (\d+ nodes?); (\d+ slices?)').fullmatch
+CONSOLE = re.compile(r'console "((?:[^"\\]|\\.)*)"(?:; |$)')
+GONE = re.compile(r"(\d+) (?:gone|killed|exited \d+|fault \d+ at [0-9a-f]{8})(?=; |$)")
 
 
 def counted(count, word):
@@ -31,13 +34,12 @@ class Ending:
 
     @property
     def console(self):
-        text = self.seen.split("; ")[0].removeprefix("console ")
-        return b"" if text == "empty" else bytes.fromhex(text)
+        return names.unquoted(CONSOLE.match(self.seen)[1])
 
     @property
     def gone(self):
         """The pids of the processes that are gone."""
-        return {int(match[1]) for match in map(GONE, self.seen.split("; ")) if match}
+        return {int(match[1]) for match in GONE.finditer(self.seen, CONSOLE.match(self.seen).end())}
 
 
 @dataclass(frozen=True)

@@ -1,8 +1,9 @@
 """Every order of the threads of an image, searched breadth first over runs of the program. It is slow, and proves nothing.
 
 A *slice* of a ready thread is `pick` of it and its steps up to the first that leaves a record, at most so many as the quantum. A
-*node* is a state without its cursor and, where steps don't count, without its count of steps, with the console's bytes so far and the
-events that may still come. An *ending* is a node in which nobody is ready, or where steps count and are at their bound.
+*node* is a state without its cursor and, where steps don't count, without its count of steps, with the console's bytes so far, what
+processes ended with, and the events that may still come. An *ending* is a node in which nobody is ready, or where steps count and are at
+their bound.
 
 Steps count in all nodes or in none: two orders that lead to one node may have done other numbers of steps, and who claims the
 timer's interrupt there can read them. So a search is made anew, with a bound of steps, where it comes to a state in which somebody has.
@@ -25,6 +26,7 @@ from ..machine import MOST_STEPS, TIMER_INTERRUPT
 from ..states import state
 from ..transcripts import decode
 from . import events, found
+from .ended import Ended, ends_of
 from .seen import of_state
 
 WORKERS = 3
@@ -48,6 +50,7 @@ class Node:
     slices: int
     console: bytes
     once: tuple
+    ends: dict[int, Ended]
     machine: state.State | None = None
     file: str = ""  # of the machine's bytes, as long as the node isn't expanded
 
@@ -65,7 +68,7 @@ def key_of(node, counts):
     machine = node.machine
     kept = dataclasses.replace(machine, cursor=(2, 2), steps=machine.steps if counts else 0)
     digest = hashlib.sha256(kept.to_bytes())
-    return digest.digest(), node.console, tuple(event.text() for event in node.once)
+    return digest.digest(), node.console, tuple(event.text() for event in node.once), tuple(sorted(node.ends.items()))
 
 
 class Search:
@@ -77,21 +80,26 @@ class Search:
 
     # Runs.
 
-    def run(self, command, subject, played, limit, may_be_empty=False):
+    def run(self, command, subject, played, limit):
         path = os.path.join(self.folder, f"{next(self.files)}.events")
         with open(path, "wb") as file:
             file.write(events.spelled(played))
         words = [self.program, command, subject, path, str(limit)]
         ran = subprocess.run(words, stdout=subprocess.PIPE, stderr=subprocess.PIPE, check=False)
         os.unlink(path)
-        if ran.returncode not in (0, 7) or not (ran.stdout or may_be_empty):
+        if ran.returncode not in (0, 7) or not ran.stdout:
             raise Refusal(f"xousim {command}: {ran.stderr.decode().strip()}")
         return ran.stdout
 
     def played(self, path, once=()):
         """The node behind these events from the image's start, without its state."""
-        console = self.run("run", self.image, path, MOST_STEPS, may_be_empty=True)
-        return Node(path, 0, console, once)
+        records = self.records("trace", self.image, path)
+        return Node(path, 0, written_in(records), once, ends_on({}, records))
+
+    def records(self, command, subject, played):
+        """The records of a run on from an image or a state, but for the last one, and that."""
+        told = self.run(command, subject, played, MOST_STEPS).decode("latin-1").splitlines()
+        return [decode.record_of(line) for line in told]
 
     def visited(self, node):
         """The node with its state, which stands in a file, too."""
@@ -113,16 +121,17 @@ class Search:
         machine = node.machine
         most = min(self.asked.quantum, self.bound() - machine.steps)
         pick = events.Event(0, "pick", who)
-        told = self.run("resume", node.file, [pick, events.tick(most)], MOST_STEPS).decode().splitlines()
-        records = [decode.record_of(line) for line in told]
+        records = self.records("resume", node.file, [pick, events.tick(most)])
         last = records[0].step if len(records) > 1 else min(records[-1].step, machine.steps + most)
-        written = bytes(record.words[0] for record in records if record.what == decode.BYTE and record.step == last)
+        own = [record for record in records if record.step == last]
         path = [*node.path, pick, events.tick(last - machine.steps)]
-        return self.visited(Node(path, node.slices + 1, node.console + written, node.once))
+        ends = ends_on(node.ends, own)
+        return self.visited(Node(path, node.slices + 1, node.console + written_in(own), node.once, ends))
 
     def after_event(self, node, event):
         rest = tuple(other for other in node.once if other is not event)
-        return self.visited(Node([*node.path, event], node.slices, node.console, rest))
+        ends = ends_on(node.ends, self.records("resume", node.file, [event]))
+        return self.visited(Node([*node.path, event], node.slices, node.console, rest, ends))
 
     # The search.
 
@@ -157,6 +166,7 @@ class Search:
 
     def search_nodes(self):
         first = self.visited(self.played(list(self.asked.first), self.asked.once))
+        first.ends = {}  # of what was played before the search it isn't kept
         with ThreadPoolExecutor(WORKERS) as pool:
             level = [first] if self.meet(first) else []
             while level:
@@ -174,12 +184,22 @@ class Search:
         """What was found, where endings that look alike are one, and of each a node with the shortest order."""
         alike = {}
         for node in self.endings:
-            alike.setdefault(seen(node), []).append(node)
+            alike.setdefault(seen(node).text(), []).append(node)
         endings = tuple(found.Ending(text, len(nodes), nodes[0].slices) for text, nodes in alike.items())
         within = self.asked.steps if self.counts else None
         return found.Found(len(self.nodes), self.slices, self.whole, endings, within), [nodes[0] for nodes in alike.values()]
 
 
+def ends_on(ends, records):
+    """What processes ended with that ended before, and in these records."""
+    return dict(ends_of(records)) | ends
+
+
+def written_in(records):
+    """The bytes that go to the console."""
+    return bytes(record.words[0] for record in records if record.what == decode.BYTE)
+
+
 def seen(node):
-    """What is seen of an ending: the console, who lives, and for what each thread waits."""
-    return of_state(node.machine, node.console).text()
+    """What is seen of an ending: the console, what processes ended with, and for what each thread waits."""
+    return of_state(node.machine, node.console, node.ends)

@@ -1,17 +1,17 @@
-"""What is seen of the end of a run (docs/orders.md): the console, who lives, and for what each thread waits.
+"""What is seen of the end of a run (docs/orders.md): the console, what processes ended with, and for what each thread waits.
 
 Two things tell it, and it is spelled once: a state of the machine, as a search of orders has it, and the history that follows a transcript.
 """
 
 from __future__ import annotations
 
-from collections.abc import Iterable
-from dataclasses import dataclass
+from dataclasses import dataclass, field
 
 from .. import names
 from ..machine import FIRST_PID, HANDLER_TID
 from ..states import state
 from ..transcripts.history import History
+from .ended import Ended
 
 
 @dataclass(frozen=True)
@@ -23,15 +23,20 @@ class Standing:
     how: int  # a state of a thread: READY, RECEIVING, WAITING or JOINING
     server: str = ""
     message: int = 0
-    is_held: bool = False
+    kept: str = ""  # queued or held, where a server has the message
     joined: int = 0
 
-    def text(self) -> str:
+    def is_stuck(self) -> bool:
+        """Whether it waits for an answer or for a thread."""
+        return self.how in (state.WAITING, state.JOINING)
+
+    def text(self, has_number: bool = False) -> str:
         name = f"{self.pid}.{self.tid}"
         if self.how == state.RECEIVING:
             return f"{name} receives at {self.server}"
         if self.how == state.WAITING:
-            return f"{name} waits for message {self.message} {'held' if self.is_held else 'queued'} at {self.server}"
+            number = f" for message {self.message}" if has_number else ""
+            return f"{name} waits{number}{f', {self.kept} at {self.server}' if self.kept else ''}"
         if self.how == state.JOINING:
             return f"{name} joins {self.pid}.{self.joined}"
         return f"{name} ready"
@@ -39,30 +44,35 @@ class Standing:
 
 @dataclass(frozen=True)
 class Seen:
-    """The bytes of the console, and by pid how the threads of a process stand, or none of one that is gone."""
+    """The bytes of the console, and by pid how the threads of a process stand, or none of one that is gone; and by pid what processes
+    ended with, as far as that is kept."""
 
     console: bytes
     processes: dict[int, list[Standing] | None]
-
-    def console_text(self) -> str:
-        return f"console {self.console.hex() or 'empty'}"
+    ends: dict[int, Ended] = field(default_factory=dict)
 
     def text(self) -> str:
         """As xousorders prints it."""
-        return "; ".join([self.console_text(), *(process_text(pid, threads) for pid, threads in self.processes.items())])
+        return "; ".join([console_text(self.console), *(self.process_text(pid) for pid in self.processes)])
+
+    def process_text(self, pid: int, has_numbers: bool = False) -> str:
+        threads, ended = self.processes[pid], self.ends.get(pid)
+        if threads is None:
+            return f"{pid} {ended.text() if ended else 'gone'}"
+        return f"{pid} waits: {', '.join(each.text(has_numbers) for each in threads)}"
 
 
-def process_text(pid: int, threads: Iterable[Standing] | None) -> str:
-    return f"{pid} gone" if threads is None else f"{pid} waits: {', '.join(each.text() for each in threads)}"
+def console_text(console: bytes) -> str:
+    return f"console {names.quoted(console)}"
 
 
-def of_state(machine: state.State, console: bytes) -> Seen:
+def of_state(machine: state.State, console: bytes, ends: dict[int, Ended]) -> Seen:
     """What is seen of a state. An interrupt thread that runs no handler isn't seen."""
     processes: dict[int, list[Standing] | None] = {}
     for pid, process in enumerate(machine.processes, FIRST_PID):
         own = [thread for who, thread in sorted(machine.threads.items()) if who[0] == pid and thread.state != state.IDLE]
         processes[pid] = [standing_of(machine, thread) for thread in own] if process.alive else None
-    return Seen(console, processes)
+    return Seen(console, processes, ends)
 
 
 def standing_of(machine: state.State, thread: state.Thread) -> Standing:
@@ -70,12 +80,13 @@ def standing_of(machine: state.State, thread: state.Thread) -> Standing:
     if thread.state == state.RECEIVING:
         return Standing(pid, tid, thread.state, server=machine.server(thread.waits_for).name)
     if thread.state == state.WAITING:
-        server, message, held = machine.find_message(thread.waits_for)
-        return Standing(pid, tid, thread.state, server.name, message.number, held)
+        found = machine.find_message(thread.waits_for)
+        server, kept = (found[0].name, "held" if found[2] else "queued") if found else ("", "")
+        return Standing(pid, tid, thread.state, server, thread.waits_for, kept)
     return Standing(pid, tid, thread.state, joined=thread.waits_for)
 
 
-def of_history(history: History, console: bytes) -> Seen:
+def of_history(history: History, console: bytes, ends: dict[int, Ended]) -> Seen:
     """The same by the records that a history followed."""
     where = messages_by_sender(history)
     processes: dict[int, list[Standing] | None] = {}
@@ -83,17 +94,17 @@ def of_history(history: History, console: bytes) -> Seen:
         tids = sorted(tid for owner, tid in history.calls if owner == pid and (pid, tid) not in history.idle)
         standings = [standing_by_call((pid, tid), history.calls[pid, tid], where) for tid in tids]
         processes[pid] = None if pid in history.gone else standings
-    return Seen(console, processes)
+    return Seen(console, processes, ends)
 
 
-def messages_by_sender(history: History) -> dict[tuple[int, int], tuple[str, int, bool]]:
-    """By thread that waits for an answer: the server that has its message, the message's number, and whether it is held."""
+def messages_by_sender(history: History) -> dict[tuple[int, int], tuple[str, int, str]]:
+    """By thread that waits for an answer: the server that has its message, the message's number, and how it is kept there."""
     found = {}
     for server in history.servers:
-        for is_held, messages in ((False, server.queued), (True, server.held.values())):
+        for kept, messages in (("queued", server.queued), ("held", server.held.values())):
             for message in messages:
                 if server.is_alive and message.sender:
-                    found[message.sender] = names.identifier_name(server.identifier), message.number, is_held
+                    found[message.sender] = names.identifier_name(server.identifier), message.number, kept
     return found
 
 
@@ -105,8 +116,7 @@ def standing_by_call(who, call, where) -> Standing:
         return Standing(pid, tid, state.RECEIVING, server=names.identifier_name(call.words[1:5]))
     if call.words[0] == names.JOIN:
         return Standing(pid, tid, state.JOINING, joined=call.words[1])
-    server, number, is_held = where[who]
-    return Standing(pid, tid, state.WAITING, server, number, is_held)
+    return Standing(pid, tid, state.WAITING, *where[who])
 
 
 def ready_of(history: History) -> list[tuple[int, int]]:

@@ -2,7 +2,6 @@
 
 from __future__ import annotations
 
-import json
 import pickle
 import re
 from collections.abc import Iterator
@@ -10,8 +9,8 @@ from dataclasses import dataclass, field
 
 from .. import names
 from ..errors import Refusal
-from ..runs import seen
-from ..states import state
+from ..runs import fails, seen
+from ..runs.ended import ends_of
 from ..transcripts import decode
 from ..transcripts.history import History
 from ..transcripts.laws import Broken
@@ -20,11 +19,10 @@ from ..transcripts.stored import record_of
 CONSOLE, EXITS, WAITS, SERVERS, NUMBERS = "console", "exits", "waits", "servers", "numbers"
 SEE = (CONSOLE, EXITS, WAITS, SERVERS, NUMBERS)
 USUAL_SEE = (CONSOLE, EXITS, WAITS)
-EXIT, FAULT, LIMIT, WITHOUT, NONE = "exit", "fault", "limit", "without", "none"
+EXIT, FAULT, CONSOLE_NOT, LIMIT, NONE = fails.EXIT, fails.FAULT, "console-not", "limit", "none"
 USUAL_FAILS = (EXIT, FAULT, WAITS)
 # A Yield changes nothing that is seen at the end, and long transcripts are full of them. Its reply comes right behind it.
 YIELDS = re.compile(rb"^(\d+ \d+\.\d+) call 00000003 [^\n]*\n\1 reply [^\n]*\n", re.M)
-NUMBER = re.compile(r"waits for message \d+ (queued|held)")
 
 
 @dataclass
@@ -34,71 +32,66 @@ class Outcome:
     seen: seen.Seen
     steps: int
     met_limit: bool
-    ends: dict[int, str] = field(default_factory=dict)  # by pid how a process ended
     servers: list[str] = field(default_factory=list)
 
     def text(self, see: tuple[str, ...]) -> str:
         """What is seen, as far as it is asked for. At the step limit nothing is told of who waits, as that is mere chance."""
         parts = ["step limit"] if self.met_limit else []
-        parts += [console_text(self.seen.console)] if CONSOLE in see else []
+        parts += [seen.console_text(self.seen.console)] if CONSOLE in see else []
         for pid, threads in self.seen.processes.items():
             if threads is None:
-                parts.append(f"{pid} {self.ends.get(pid, 'gone') if EXITS in see else 'gone'}")
+                parts.append(self.seen.process_text(pid) if EXITS in see else f"{pid} gone")
             elif WAITS in see and not self.met_limit:
-                told = seen.process_text(pid, threads)
-                parts.append(told if NUMBERS in see else NUMBER.sub(r"waits for a message \1", told))
+                parts.append(self.seen.process_text(pid, NUMBERS in see))
         if SERVERS in see and not self.met_limit:
             parts.append(f"servers {', '.join(self.servers) or 'none'}")
         return "; ".join(parts)
 
 
-def console_text(console: bytes) -> str:
-    """The console as text in quotes, or in hexadecimal if bytes of it aren't printed."""
-    text = console.decode("latin-1")
-    if not console or any(not (" " <= letter <= "~" or letter in "\n\t") for letter in text):
-        return f"console {console.hex() or 'empty'}"
-    return f"console {json.dumps(text)}"
-
-
 @dataclass(frozen=True)
 class Rule:
-    """What makes a run a failed one: a kind, and for the console a text."""
+    """What makes a run a failed one: a kind, and for the console a text, or for waits a process or thread."""
 
     kind: str
     text: str = ""
 
     def spelled(self) -> str:
-        return f"{self.kind} {self.text}" if self.text else self.kind
+        return f"{self.kind}={self.text}" if self.text else self.kind
 
     def failures(self, outcome: Outcome) -> Iterator[str]:
         """In words what fails of a run."""
         if self.kind in (EXIT, FAULT):
-            for pid, how in sorted(outcome.ends.items()):
-                if how.startswith(f"{self.kind} ") and how != "exit 0":
-                    yield f"{pid} {how}"
+            yield from (f"{pid} {ended.text()}" for pid, ended in sorted(outcome.seen.ends.items()) if fails.is_bad(self.kind, ended))
         elif self.kind == WAITS and not outcome.met_limit:
-            for threads in outcome.seen.processes.values():
-                waiting = (thread for thread in threads or () if thread.how in (state.WAITING, state.JOINING))
-                yield from (f"{thread.pid}.{thread.tid} waits" for thread in waiting)
+            who = fails.waiter_of(self.text) if self.text else ()
+            yield from (f"{name} waits" for name in fails.stuck(outcome.seen, who))
         elif self.kind == LIMIT and outcome.met_limit:
             yield "step limit"
-        elif self.kind in (CONSOLE, WITHOUT):
+        elif self.kind in (CONSOLE, CONSOLE_NOT):
             has_text = self.text.encode() in outcome.seen.console
             if has_text == (self.kind == CONSOLE):
                 yield self.spelled()
+
+
+# What stands before a text of the console; those with a space are old names.
+TEXTS = {"console=": CONSOLE, "console-not=": CONSOLE_NOT, "console ": CONSOLE, "without ": CONSOLE_NOT}
 
 
 def rules_of(words: list[str] | None) -> tuple[Rule, ...]:
     """The rules of the words of --fails."""
     rules: list[Rule] = []
     for word in words if words is not None else USUAL_FAILS:
-        kind, space, text = word.partition(" ")
-        if kind in (CONSOLE, WITHOUT) and space and text:
+        named = ((kind, word.removeprefix(start)) for start, kind in TEXTS.items() if word.startswith(start))
+        kind, text = next(named, ("", ""))
+        if word.startswith(f"{WAITS}="):
+            kind, text = WAITS, word.removeprefix(f"{WAITS}=")
+            fails.waiter_of(text)
+        if text:
             rules.append(Rule(kind, text))
             continue
         for each in word.split(","):
             if each not in (EXIT, FAULT, WAITS, LIMIT, NONE):
-                raise Refusal(f"--fails {word}: say exit, fault, waits, limit or none, or 'console TEXT' or 'without TEXT' in quotes", 2)
+                raise Refusal(f"--fails {word}: say exit, fault, waits, waits=PID.TID, limit, none, 'console=TEXT' or 'console-not=TEXT'", 2)
             rules += [Rule(each)] if each != NONE else []
     return tuple(dict.fromkeys(rules))
 
@@ -131,8 +124,8 @@ class Reader:
         records = records_of(transcript)
         history = pickle.loads(self.history)
         follow(history, records)
-        what = seen.of_history(history, self.console + console_of(records))
-        return Outcome(what, last.step, last.what == decode.LIMIT, self.ends | dict(ends_of(records)), servers_of(history))
+        what = seen.of_history(history, self.console + console_of(records), self.ends | dict(ends_of(records)))
+        return Outcome(what, last.step, last.what == decode.LIMIT, servers_of(history))
 
 
 def follow(history: History, records: list[decode.Record]) -> None:
@@ -162,25 +155,6 @@ def last_of(transcript: bytes) -> decode.Record:
 
 def console_of(records: list[decode.Record]) -> bytes:
     return bytes(record.words[0] for record in records if record.what == decode.BYTE)
-
-
-def ends_of(records: list[decode.Record]) -> Iterator[tuple[int, str]]:
-    """The pids that died, each with how: by an exit word, a fault, the end of the last thread, or an event."""
-    before: decode.Record | None = None  # the last record by which a process may end itself
-    for record in records:
-        if record.what in (decode.CALL, decode.FAULT, decode.END):
-            before = record
-        elif record.what == decode.GONE:
-            is_own = before is not None and (before.step, before.pid) == (record.step, record.pid)
-            yield record.pid, how_of(before) if before is not None and is_own else "killed"
-
-
-def how_of(record: decode.Record) -> str:
-    if record.what == decode.FAULT:
-        return f"fault {record.words[0]}"
-    if record.what == decode.END:
-        return "ended"
-    return f"exit {names.word_text(record.words[1])}" if record.words[0] == names.TERMINATE else "killed"
 
 
 def servers_of(history: History) -> list[str]:

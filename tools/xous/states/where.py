@@ -22,9 +22,13 @@ NEAR_STACK = 4 * PAGE
 
 
 def spot_text(programs, thread):
-    """The function and line of a thread."""
+    """The function and line of a thread, and in a function of a library the line that called it."""
     program = programs.get(thread.pid)
-    return f"in {program.spot(place_of(thread))} (pc {thread.pc:08x})" if program else f"pc {thread.pc:08x}"
+    if program is None:
+        return f"pc {thread.pc:08x}"
+    place = place_of(thread)
+    caller = program.caller(place, thread.registers)
+    return f"in {program.spot(place)}{f', called in {caller}' if caller else ''} (pc {thread.pc:08x})"
 
 
 def place_of(thread):

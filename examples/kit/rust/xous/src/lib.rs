@@ -25,6 +25,7 @@
 //! ```
 
 mod call;
+mod check;
 #[cfg(not(target_os = "xous"))]
 mod host;
 mod message;
@@ -34,6 +35,9 @@ mod send;
 mod server;
 pub mod timer;
 
+pub use check::CHECK_FAILED;
+#[doc(hidden)]
+pub use check::end_by_check;
 pub use message::{BlockingScalar, Lent, LentMut, Message, Moved, Scalar};
 pub use pages::{PAGE_SIZE, Pages, console};
 pub use send::{Answer, Connection, Returned};
