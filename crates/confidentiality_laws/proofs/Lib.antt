@@ -1,5 +1,4 @@
 pub mod Carrying
-pub mod CauseCaseLemmas
 pub mod Histories
 pub mod Isolating
 pub mod Keeping

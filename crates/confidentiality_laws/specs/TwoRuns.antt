@@ -1,34 +1,17 @@
 -- Two runs side by side, over one list of causes, from states that differ only in bytes of pages: while no process does a step that
 -- can load a page which differs then, the runs have the same records, and the same states but for the bytes of pages.
-use Rattle.std.specs.Prelude.{◌≡◌, ℕ, List, [], ◌∷◌, ◌++◌, map, slice_get, Some}
+use Rattle.std.specs.Prelude.{◌≡◌, ℕ, List, map, slice_get, Some}
 use Rattle.xk_base.specs.declared.ids.Pid.{Pid}
 use Rattle.xk_base.specs.declared.ids.Place.{Place}
 use Rattle.xk_base.specs.declared.ids.ThreadId.{ThreadId}
 use Rattle.xk_base.specs.declared.pages.Access.TheVariants.{Load}
-use Rattle.xk_base.specs.declared.records.Rec.{Rec}
 use Rattle.ledger_model.specs.Ledger.{PageName, contents_of}
 use Rattle.ledger_model.specs.Reach.{reach}
 use Rattle.machine_model.specs.Runs.Isolation.{without_bytes}
-use Rattle.machine_model.specs.Runs.Moments.{Cause, ByStep, ByPick, ByIrq, ByKill, ByTurn, Moment, IsRun, state_at}
+use Rattle.machine_model.specs.Runs.Moments.{ByStep, Moment, IsRun, state_at}
 use Rattle.machine_model.specs.State.Machine.{Machine}
 use Rattle.machine_model.specs.State.Order.{actor}
-use Rattle.machine_model.specs.Stepping.Events.{picked, raised, killed}
-use Rattle.machine_model.specs.Stepping.Step.{step}
-
--- ---- what a run tells
-
--- the records of what leads from a state to the next; the end of a turn has none
-abbrev pub records_by : Cause → Machine → List Rec
-records_by ByStep m = (step m).records
-records_by (ByPick who) m = (picked who m).records
-records_by (ByIrq k) m = (raised k m).records
-records_by (ByKill pid) m = (killed pid m).records
-records_by ByTurn m = []
-
--- those of a run, in order
-unfoldable pub records_of : Machine → List Moment → List Rec
-records_of start [] = []
-records_of start (moment ∷ moments) = records_by moment.cause start ++ records_of moment.machine moments
+use Rattle.machine_laws.specs.Records.{records_of}
 
 -- ---- side by side
 

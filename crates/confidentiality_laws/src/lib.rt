@@ -4,10 +4,8 @@
 
 mod calls;
 mod differences;
-mod records;
 mod side_by_side;
 
 pub use calls::calls_depend_on_their_view;
 pub use differences::causes_make_no_difference;
-pub use records::records_are_of_the_moments;
 pub use side_by_side::histories_are_side_by_side;

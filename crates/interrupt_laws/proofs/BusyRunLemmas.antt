@@ -18,13 +18,13 @@ use Rattle.machine_model.specs.Stepping.Timer.{is_due}
 use Rattle.machine_model.proofs.Runs.TimerLemmas.{timed_raised}
 use Rattle.machine_laws.proofs.Stepping.EveryStepLemmas.{every_cause_keeps}
 use Rattle.machine_laws.proofs.Threading.ThreadStepLemmas.{turned_to}
-use Rattle.confidentiality_laws.proofs.CauseCaseLemmas.{ActCase, CauseCase, EndsHandler, EndsThread, Instructs, Kills, Raises, Rests, Steps, case_of}
+use Rattle.machine_laws.proofs.Stepping.CauseCaseLemmas.{ActCase, CauseCase, EndsHandler, EndsThread, Instructs, Kills, Raises, Rests, Steps, case_of}
 use Rattle.interrupt_laws.specs.Busy.{PendingMeansBusy, PendingStaysBusy, StartsBusy}
 use Rattle.interrupt_laws.proofs.BusyDeliveryLemmas.{AreNumbers, handler_end_busy, pended_busy, timed_busy}
 use Rattle.interrupt_laws.proofs.IdleCallLemmas.{call_calms}
 use Rattle.interrupt_laws.proofs.IdleLemmas.{Calms, busy_kept, changed_idles, death_calms, settled_calms, then_calms, thread_end_calms}
 use Rattle.interrupt_laws.proofs.KeptPendingLemmas.{PendingIsClaimed}
-use Rattle.confidentiality_laws.specs.TwoRuns.{records_by}
+use Rattle.machine_laws.specs.Records.{records_by}
 use Rattle.machine_laws.proofs.Threading.ThreadStepLemmas.{step_of_thread}
 use Rattle.machine_model.specs.Stepping.Step.{acted}
 use Rattle.machine_model.specs.Stepping.Timer.{timed}

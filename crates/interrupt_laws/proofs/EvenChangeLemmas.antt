@@ -16,7 +16,7 @@ use Rattle.machine_model.specs.State.Views.{stored, timer_set}
 use Rattle.machine_model.specs.Stepping.Step.{console_told, executed}
 use Rattle.machine_model.specs.Stepping.Timer.{raised_by_timer, timed_if, timer_change}
 use Rattle.machine_laws.proofs.Threading.ThreadStepLemmas.{turned_to}
-use Rattle.confidentiality_laws.proofs.CauseCaseLemmas.{ActCase, EndsHandler, EndsThread, Instructs}
+use Rattle.machine_laws.proofs.Stepping.CauseCaseLemmas.{ActCase, EndsHandler, EndsThread, Instructs}
 use Rattle.interrupt_laws.specs.Balance.{given_up_in}
 use Rattle.interrupt_laws.specs.Delivering.{once_if}
 use Rattle.interrupt_laws.proofs.BalanceLemmas.{settled_count, timed_count, told_count, told_delivery}

@@ -16,8 +16,8 @@ use Rattle.machine_model.specs.Stepping.Step.{Recorded, acted, record_of}
 use Rattle.machine_model.specs.Stepping.Timer.{is_due, timed}
 use Rattle.machine_model.proofs.Runs.TimerLemmas.{timed_raised}
 use Rattle.machine_laws.proofs.Threading.ThreadStepLemmas.{turned_to}
-use Rattle.confidentiality_laws.specs.TwoRuns.{records_by}
-use Rattle.confidentiality_laws.proofs.CauseCaseLemmas.{CauseCase, IsDead, Kills, NoneActs, Picks, Raises, RestCase, Rests, Steps, Turns, Unclaimed, case_of}
+use Rattle.machine_laws.specs.Records.{records_by}
+use Rattle.machine_laws.proofs.Stepping.CauseCaseLemmas.{CauseCase, IsDead, Kills, NoneActs, Picks, Raises, RestCase, Rests, Steps, Turns, Unclaimed, case_of}
 use Rattle.interrupt_laws.specs.Balance.{given_up_in, merges_in}
 use Rattle.interrupt_laws.specs.Delivering.{deliveries, once_if, raises_in}
 use Rattle.interrupt_laws.specs.Raising.{other_effects}

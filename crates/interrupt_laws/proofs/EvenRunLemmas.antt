@@ -4,7 +4,7 @@ use Rattle.machine_laws.proofs.Stepping.EveryStepLemmas.{every_cause_keeps}
 use Rattle.machine_model.specs.Runs.Matched.{Matched}
 use Rattle.machine_model.specs.Runs.Moments.{IsRun, caused, state_at}
 use Rattle.machine_model.specs.State.Machine.{Machine}
-use Rattle.confidentiality_laws.specs.TwoRuns.{records_by, records_of}
+use Rattle.machine_laws.specs.Records.{records_by, records_of}
 use Rattle.interrupt_laws.specs.Balance.{NoInterruptIsLost, given_up, given_up_in, merges, merges_in}
 use Rattle.interrupt_laws.specs.Delivering.{deliveries, once_if, raises, raises_in}
 use Rattle.interrupt_laws.proofs.BalanceLemmas.{deliveries-append}

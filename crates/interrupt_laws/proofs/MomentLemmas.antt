@@ -18,8 +18,8 @@ use Rattle.machine_model.specs.Stepping.Reservations.{unreserved}
 use Rattle.machine_model.specs.Stepping.Step.{Recorded, acted, console_told, executed, record_of}
 use Rattle.machine_model.specs.Stepping.Timer.{is_due, raised_by_timer, timed, timed_if, timer_change}
 use Rattle.machine_laws.proofs.Threading.ThreadStepLemmas.{turned_to}
-use Rattle.confidentiality_laws.specs.TwoRuns.{records_by}
-use Rattle.confidentiality_laws.proofs.CauseCaseLemmas.{ActCase, CauseCase, EndsHandler, EndsThread, Instructs, Kills, Raises, Rests, Steps, case_of}
+use Rattle.machine_laws.specs.Records.{records_by}
+use Rattle.machine_laws.proofs.Stepping.CauseCaseLemmas.{ActCase, CauseCase, EndsHandler, EndsThread, Instructs, Kills, Raises, Rests, Steps, case_of}
 use Rattle.interrupt_laws.specs.Delivering.{deliveries, once_if, raises_in}
 use Rattle.interrupt_laws.proofs.BalanceLemmas.{deliveries-recorded, settled_count, timed_count, told_count, told_delivery}
 use Rattle.interrupt_laws.proofs.BeforeTimerLemmas.{before_timer, raises_if_due}

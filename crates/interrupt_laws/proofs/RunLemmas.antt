@@ -3,7 +3,7 @@ use Rattle.std.proofs.Common.{◌≡◌, ◌+◌, ◌≤◌, Bool, [], ◌∷◌
 use Rattle.machine_laws.proofs.Stepping.EveryStepLemmas.{every_run_keeps}
 use Rattle.machine_model.specs.Runs.Moments.{IsRun, caused, state_at}
 use Rattle.machine_model.specs.State.Machine.{Machine}
-use Rattle.confidentiality_laws.specs.TwoRuns.{records_by, records_of}
+use Rattle.machine_laws.specs.Records.{records_by, records_of}
 use Rattle.interrupt_laws.specs.Delivering.{DeliveredAtMostOnce, PendingAreClaimed, deliveries, once_if, raises, raises_in}
 use Rattle.interrupt_laws.proofs.BalanceLemmas.{deliveries-append}
 use Rattle.interrupt_laws.proofs.MomentLemmas.{moment_delivers}

@@ -5,7 +5,7 @@ use Rattle.xk_base.specs.declared.limits.TheConstants.{TIMER_INTERRUPT}
 use Rattle.machine_model.specs.Runs.Matched.{Matched}
 use Rattle.machine_model.specs.Runs.Moments.{Cause, ByStep, ByPick, ByIrq, ByKill, ByTurn, Moment, IsRun, state_at}
 use Rattle.machine_model.specs.State.Machine.{Machine}
-use Rattle.confidentiality_laws.specs.TwoRuns.{records_of}
+use Rattle.machine_laws.specs.Records.{records_of}
 use Rattle.interrupt_laws.specs.Raising.{other_effects}
 use Rattle.interrupt_laws.specs.Delivering.{deliveries, once_if, raises, timer_raises}
 

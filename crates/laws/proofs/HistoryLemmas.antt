@@ -21,7 +21,7 @@ use Rattle.machine_laws.specs.History.{history}
 use Rattle.machine_laws.specs.HistoryMoments.{moments_of}
 use Rattle.confidentiality_laws.specs.TwoHistories.{StartSideBySide}
 use Rattle.machine_laws.proofs.Histories.MomentLemmas.{history_is_run, history_last}
-use Rattle.confidentiality_laws.proofs.Histories.RecordLemmas.{history_tells}
+use Rattle.machine_laws.proofs.Histories.RecordLemmas.{history_tells}
 use Rattle.confidentiality_laws.proofs.Histories.SideBySideLemmas.{side_by_side}
 use Rattle.laws.specs.Standing.{IsReservedBefore}
 use Rattle.laws.proofs.ReservedLemmas.{every_reservation_holds}

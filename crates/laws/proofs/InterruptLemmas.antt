@@ -16,7 +16,7 @@ use Rattle.machine_laws.proofs.Stepping.EveryStepLemmas.{every_run_keeps}
 use Rattle.machine_laws.specs.History.{history}
 use Rattle.machine_laws.specs.HistoryMoments.{moments_of}
 use Rattle.machine_laws.proofs.Histories.MomentLemmas.{history_is_run, history_last}
-use Rattle.confidentiality_laws.proofs.Histories.RecordLemmas.{history_tells}
+use Rattle.machine_laws.proofs.Histories.RecordLemmas.{history_tells}
 use Rattle.transcript_laws.specs.Stuck.{WaitsFor}
 use Rattle.interrupt_laws.specs.Balance.{given_up, merges}
 use Rattle.interrupt_laws.specs.Busy.{PendingMeansBusy}

@@ -25,8 +25,8 @@ use Rattle.machine_model.specs.Stepping.Step.{Recorded, acted, counted, ends_han
 use Rattle.machine_model.proofs.Runs.TimerLemmas.{pended_raised, timed_raised}
 use Rattle.machine_laws.proofs.Threading.ThreadPutLemmas.{alike}
 use Rattle.machine_laws.proofs.Threading.ThreadStepLemmas.{performed_turned, turned_to}
-use Rattle.confidentiality_laws.specs.TwoRuns.{records_by}
-use Rattle.confidentiality_laws.proofs.CauseCaseLemmas.{CauseCase, IsDead, Kills, NoneActs, Picks, Raises, RestCase, Rests, Steps, Turns, Unclaimed, case_of}
+use Rattle.machine_laws.specs.Records.{records_by}
+use Rattle.machine_laws.proofs.Stepping.CauseCaseLemmas.{CauseCase, IsDead, Kills, NoneActs, Picks, Raises, RestCase, Rests, Steps, Turns, Unclaimed, case_of}
 use Rattle.laws.specs.Standing.{EveryReservationHolds, IsReservedBefore, IsReservedFromStart}
 
 -- ---- one instruction

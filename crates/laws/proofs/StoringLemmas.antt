@@ -28,7 +28,7 @@ use Rattle.machine_model.proofs.StepLemmas.{no_step}
 use Rattle.machine_model.proofs.Runs.TimerLemmas.{timed_raised}
 use Rattle.machine_laws.proofs.Stepping.StepKindLemmas.{Executes, HandlerEnds, StepKind, ThreadEnds, acted_as_executed, kind_of}
 use Rattle.machine_laws.proofs.Threading.ThreadStepLemmas.{performed_turned, step_of_thread, turned_to}
-use Rattle.confidentiality_laws.proofs.CauseCaseLemmas.{is_step}
+use Rattle.machine_laws.proofs.Stepping.CauseCaseLemmas.{is_step}
 use Rattle.laws.specs.LoadedWord.{StoresNothing, does_store, is_store, word_seen}
 use Rattle.laws.proofs.ReservedLemmas.{Leaves, leaves}
 

@@ -11,7 +11,7 @@ use Rattle.xk_base.specs.declared.records.What.TheVariants.{Call, Reply, Retry, 
 use Rattle.syscall_codec.specs.CallNumbers.{yield_turn}
 use Rattle.syscall_codec.specs.CallWords.{call_number}
 use Rattle.xk_base.specs.Tables.Circle.{thread_ids}
-use Rattle.confidentiality_laws.specs.TwoRuns.{records_by}
+use Rattle.machine_laws.specs.Records.{records_by}
 use Rattle.machine_model.specs.Runs.Moments.{ByTurn, Moment, state_at}
 use Rattle.machine_model.specs.State.Machine.{Machine}
 use Rattle.transcript_laws.specs.Turns.{DoesStep, IsOrderKept, IsReadyThrough}

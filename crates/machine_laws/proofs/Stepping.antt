@@ -1,4 +1,5 @@
 pub mod CallNumberLemmas
+pub mod CauseCaseLemmas
 pub mod CursorStepLemmas
 pub mod EveryStepLemmas
 pub mod StepCaseLemmas

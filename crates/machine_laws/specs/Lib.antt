@@ -1,4 +1,5 @@
 pub mod History
 pub mod HistoryMoments
 pub mod Interleaving
+pub mod Records
 pub mod Reserved

@@ -15,6 +15,6 @@ pub use events::{
 };
 pub use moments::{
     history_is_a_run, moments_follow_each_other, moments_keep_the_cursor,
-    run_ends_in_the_last_state,
+    records_are_of_the_moments, run_ends_in_the_last_state,
 };
 pub use step_laws::{all_keep_cursor, all_keep_matched, calls_keep_matched, step_keeps_matched};

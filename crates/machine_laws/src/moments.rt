@@ -8,6 +8,7 @@ ghost use Rattle.machine_model.specs.Runs.Matched.{Matched};
 ghost use Rattle.machine_model.specs.Runs.Moments.{IsRun, state_at};
 ghost use Rattle.machine_laws.specs.History.{history};
 ghost use Rattle.machine_laws.specs.HistoryMoments.{moments_of};
+ghost use Rattle.machine_laws.specs.Records.{records_of};
 
 /// The moments of a history are a run from its start.
 #[tactic(auto, using(crate::proofs::Histories::MomentLemmas::history_is_run))]
@@ -37,4 +38,10 @@ pub fn moments_keep_the_cursor()
         → IsTrue (is_thread_id start.processes start.cursor) → (i : ℕ)
         → IsTrue (is_thread_id (state_at start (moments_of events limit start) i).processes
         (state_at start (moments_of events limit start) i).cursor) }
+{}
+
+/// The records of a history are those of its moments, in their order.
+pub fn records_are_of_the_moments()
+    ensures { (events : List Event) (limit : ℕ) (start : Machine)
+        → (history events limit start).records ≡ records_of start (moments_of events limit start) }
 {}

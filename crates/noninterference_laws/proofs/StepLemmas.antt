@@ -26,7 +26,7 @@ use Rattle.machine_model.proofs.Runs.TimerLemmas.{pended_raised}
 use Rattle.machine_laws.proofs.Stepping.StepKindLemmas.{is_call, is_done}
 use Rattle.machine_laws.proofs.Threading.ThreadAnswerLemmas.{same_thread-self}
 use Rattle.machine_laws.proofs.Threading.ThreadStepLemmas.{turned_to}
-use Rattle.confidentiality_laws.proofs.CauseCaseLemmas.{ActCase, EndsHandler, EndsThread, Instructs, act_of}
+use Rattle.machine_laws.proofs.Stepping.CauseCaseLemmas.{ActCase, EndsHandler, EndsThread, Instructs, act_of}
 use Rattle.noninterference_laws.proofs.InstructionLemmas.{delivery_other, instruction_leaves, other_thread, unanswered}
 use Rattle.noninterference_laws.proofs.PendingLemmas.{lowest_claimed, pended_pending, started_pending}
 use Rattle.noninterference_laws.specs.Causes.{AllKeepOthers, LeavesAll, by_kill, by_step, is_of_claimant}

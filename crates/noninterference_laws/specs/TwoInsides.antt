@@ -4,7 +4,7 @@ use Rattle.xk_base.specs.declared.events.Event.{Event}
 use Rattle.machine_model.specs.Runs.Matched.{Matched}
 use Rattle.machine_model.specs.Runs.Moments.{Cause, IsRun, Moment, caused, state_at}
 use Rattle.machine_model.specs.State.Machine.{Machine}
-use Rattle.confidentiality_laws.specs.TwoRuns.{records_by, records_of}
+use Rattle.machine_laws.specs.Records.{records_by, records_of}
 use Rattle.machine_laws.specs.History.{History, history}
 use Rattle.machine_laws.specs.HistoryMoments.{moments_of}
 use Rattle.noninterference_laws.specs.Acting.{ActsAlike}

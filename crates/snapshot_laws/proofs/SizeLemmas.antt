@@ -20,9 +20,9 @@ use Rattle.machine_model.proofs.Runs.TimerLemmas.{pended_raised, timed_raised}
 use Rattle.machine_laws.proofs.Threading.ThreadStepLemmas.{turned_to}
 use Rattle.call_effects.specs.Effects.{Effect, Pages, HasHeap, Starts as StartsThread, Waits, Awaits, EndsTurn, Founds, Connects, TakesNumber, Serves, ClosesServers, Unqueues, Orphans, Forgets, Claims, Frees, apply}
 use Rattle.call_effects.proofs.LeadingLemmas.{Leads, call_leads}
-use Rattle.confidentiality_laws.specs.TwoRuns.{records_by}
-use Rattle.confidentiality_laws.proofs.CauseCaseLemmas.{ActCase, CauseCase, EndCase, EndsHandler, EndsThread, Instructs, IsLast, Kills, LeavesOthers, Raises, Rests, StartCase, Starts}
-use Rattle.confidentiality_laws.proofs.CauseCaseLemmas.{StartsNone, Steps, case_of, end_of, start_of}
+use Rattle.machine_laws.specs.Records.{records_by}
+use Rattle.machine_laws.proofs.Stepping.CauseCaseLemmas.{ActCase, CauseCase, EndCase, EndsHandler, EndsThread, Instructs, IsLast, Kills, LeavesOthers, Raises, Rests, StartCase, Starts}
+use Rattle.machine_laws.proofs.Stepping.CauseCaseLemmas.{StartsNone, Steps, case_of, end_of, start_of}
 use Rattle.snapshot_laws.specs.Keeping.{IsSameSize}
 
 same : (m : Machine) → IsSameSize m m

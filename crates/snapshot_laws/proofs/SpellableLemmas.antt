@@ -10,7 +10,7 @@ use Rattle.machine_laws.specs.History.{history}
 use Rattle.machine_laws.specs.HistoryMoments.{moments_of}
 use Rattle.machine_laws.proofs.Histories.LimitLemmas.{history_within}
 use Rattle.machine_laws.proofs.Histories.MomentLemmas.{history_is_run, history_last, moments_keep}
-use Rattle.confidentiality_laws.proofs.CauseCaseLemmas.{cause_counts}
+use Rattle.machine_laws.proofs.Stepping.CauseCaseLemmas.{cause_counts}
 use Rattle.suspend_image.specs.Saveable.{IsSpellable}
 use Rattle.snapshot_laws.specs.Keeping.{IsSameSize}
 use Rattle.snapshot_laws.proofs.SizeLemmas.{cause_size}

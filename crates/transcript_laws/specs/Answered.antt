@@ -10,7 +10,7 @@ use Rattle.xk_base.specs.declared.records.What.{What}
 use Rattle.xk_base.specs.declared.records.What.TheVariants.{Call, Reply, Retry, Byte, Fault, End, Irq, Gone}
 use Rattle.syscall_codec.specs.CallWords.{call_number, return_token}
 use Rattle.syscall_codec.specs.ReplyWords.{refused_words}
-use Rattle.confidentiality_laws.specs.TwoRuns.{records_by}
+use Rattle.machine_laws.specs.Records.{records_by}
 use Rattle.machine_model.specs.Runs.Matched.{Matched, waits_for}
 use Rattle.machine_model.specs.Runs.Moments.{Cause, caused}
 use Rattle.machine_model.specs.State.Machine.{Machine, Server}

@@ -5,7 +5,7 @@ use Rattle.xk_base.specs.declared.ids.ThreadId.{ThreadId}
 use Rattle.xk_base.specs.declared.records.Rec.{Rec}
 use Rattle.xk_base.specs.declared.records.What.TheVariants.{Reply}
 use Rattle.syscall_codec.specs.CallWords.{send_address, send_id, send_kind, send_length, send_offset, send_valid}
-use Rattle.confidentiality_laws.specs.TwoRuns.{records_by}
+use Rattle.machine_laws.specs.Records.{records_by}
 use Rattle.machine_model.specs.Messaging.SendCalls.{sends_pages}
 use Rattle.machine_model.specs.Runs.Moments.{Moment, state_at}
 use Rattle.machine_model.specs.State.Machine.{Machine}

@@ -4,7 +4,7 @@ use Rattle.std.specs.Bool.{⊤}
 use Rattle.xk_base.specs.declared.ids.Number.{Number}
 use Rattle.xk_base.specs.declared.records.Rec.{Rec}
 use Rattle.xk_base.specs.declared.records.What.{What}
-use Rattle.confidentiality_laws.specs.TwoRuns.{records_of}
+use Rattle.machine_laws.specs.Records.{records_of}
 use Rattle.machine_model.specs.Runs.Moments.{Moment}
 use Rattle.machine_model.specs.State.Machine.{Machine}
 use Rattle.transcript_laws.specs.Following.{Held, Over, Queued, Standing, Stands, Unsent, is_delivery_of, is_forward_of}

@@ -14,7 +14,7 @@ use Rattle.syscall_codec.specs.CallNumbers.{return_scalar2}
 use Rattle.syscall_codec.specs.CallWords.{call_number, forward_token, return_token}
 use Rattle.xk_base.specs.Calls.Kinds.{is_waiting_kind}
 use Rattle.xk_base.specs.Tables.Circle.{same_thread}
-use Rattle.confidentiality_laws.specs.TwoRuns.{records_of}
+use Rattle.machine_laws.specs.Records.{records_of}
 use Rattle.machine_model.specs.Messaging.Messages.{is_of_number}
 use Rattle.machine_model.specs.Runs.LoanSpan.{is_send}
 use Rattle.machine_model.specs.Runs.Moments.{Moment, state_at}

@@ -3,7 +3,7 @@ use Rattle.std.specs.Prelude.{◌≡◌, ◌<◌, ◌⊎◌, Bool, true, ◌||�
 use Rattle.xk_base.specs.declared.ids.Number.{Number}
 use Rattle.xk_base.specs.declared.records.Rec.{Rec}
 use Rattle.xk_base.specs.declared.records.What.{What}
-use Rattle.confidentiality_laws.specs.TwoRuns.{records_of}
+use Rattle.machine_laws.specs.Records.{records_of}
 use Rattle.machine_model.specs.Runs.Moments.{Moment, state_at}
 use Rattle.machine_model.specs.State.Machine.{Machine}
 use Rattle.transcript_laws.specs.Following.{Held, Over, Queued, Standing, Stands, is_end_in, is_last_delivery_of, is_return_of}

@@ -16,7 +16,7 @@ use Rattle.syscall_codec.specs.CallWords.{call_number, forward_cid, forward_toke
 use Rattle.syscall_codec.specs.ReplyWords.{message_words}
 use Rattle.xk_base.specs.Tables.Connections.{connected_to}
 use Rattle.xk_base.specs.Tables.Sids.{serial_of}
-use Rattle.confidentiality_laws.specs.TwoRuns.{records_by}
+use Rattle.machine_laws.specs.Records.{records_by}
 use Rattle.machine_model.specs.Calling.ServerCalls.{named_server, named_sid}
 use Rattle.machine_model.specs.Ending.Closing.{with_senderless_from, without_queued_from}
 use Rattle.machine_model.specs.Messaging.ForwardCalls.{with_first}

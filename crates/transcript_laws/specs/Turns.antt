@@ -9,7 +9,7 @@ use Rattle.xk_base.specs.declared.records.Rec.{Rec}
 use Rattle.xk_base.specs.declared.records.What.{What}
 use Rattle.xk_base.specs.declared.records.What.TheVariants.{Call, Reply, Retry, Byte, Fault, End, Irq, Gone}
 use Rattle.xk_base.specs.Tables.Circle.{same_thread}
-use Rattle.confidentiality_laws.specs.TwoRuns.{records_by}
+use Rattle.machine_laws.specs.Records.{records_by}
 use Rattle.machine_laws.specs.Interleaving.{picks_and_ticks}
 use Rattle.machine_model.specs.Hart.Atomics.{execute_at}
 use Rattle.machine_model.specs.Hart.Instructions.{Next}

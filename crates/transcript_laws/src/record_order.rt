@@ -2,7 +2,7 @@
 
 ghost use Rattle.std.specs.Prelude.{ℕ, List};
 ghost use Rattle.xk_base.specs.declared.events.Event.{Event};
-ghost use Rattle.confidentiality_laws.specs.TwoRuns.{records_by};
+ghost use Rattle.machine_laws.specs.Records.{records_by};
 ghost use Rattle.machine_laws.specs.HistoryMoments.{moments_of};
 ghost use Rattle.machine_model.specs.Runs.Moments.{Cause, IsRun, Moment};
 ghost use Rattle.machine_model.specs.State.Machine.{Machine};

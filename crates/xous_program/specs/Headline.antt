@@ -1,6 +1,6 @@
 -- THE HEADLINE: what became of a call of the program, whatever its words and files are and whatever fails outside.
 use Rattle.std.specs.Prelude.{◌≡◌, ◌⊎◌, ℕ, length, Option, Some, None, false}
-use Rattle.confidentiality_laws.specs.TwoRuns.{records_of}
+use Rattle.machine_laws.specs.Records.{records_of}
 use Rattle.machine_model.specs.Runs.LoanSpan.{LoanSpan}
 use Rattle.machine_model.specs.Runs.Matched.{Matched}
 use Rattle.machine_model.specs.Runs.Moments.{state_at}

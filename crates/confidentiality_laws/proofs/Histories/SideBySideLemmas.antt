@@ -5,7 +5,7 @@ use Rattle.std.proofs.lemmas.List.{map-append}
 use Rattle.std.specs.Prelude.{if◌then◌else◌}
 use Rattle.xk_base.specs.declared.events.Event.{Event}
 use Rattle.xk_base.specs.declared.events.Event.TheVariants.{Tick, Pick, Irq, Kill}
-use Rattle.confidentiality_laws.proofs.Histories.RecordLemmas.{history_tells}
+use Rattle.machine_laws.proofs.Histories.RecordLemmas.{history_tells}
 use Rattle.confidentiality_laws.specs.TwoHistories.{StartSideBySide, TellTheSame}
 use Rattle.confidentiality_laws.proofs.Isolating.RunLemmas.{by_cause, cause_alike, same_but_bytes, tell_the_same}
 use Rattle.confidentiality_laws.proofs.Isolating.StepLemmas.{actor_alike}

@@ -8,7 +8,8 @@ use Rattle.machine_model.specs.State.Machine.{Machine}
 use Rattle.machine_model.specs.State.Order.{actor}
 use Rattle.machine_model.specs.Stepping.Step.{Recorded, step}
 use Rattle.machine_model.proofs.StepLemmas.{no_step}
-use Rattle.confidentiality_laws.specs.TwoRuns.{ActsAlike, IsSideBySide, RunsAreSameButBytes, RunsTellTheSame, records_by, records_of}
+use Rattle.confidentiality_laws.specs.TwoRuns.{ActsAlike, IsSideBySide, RunsAreSameButBytes, RunsTellTheSame}
+use Rattle.machine_laws.specs.Records.{records_by, records_of}
 use Rattle.confidentiality_laws.proofs.Isolating.EventLemmas.{killed_bare, picked_bare, raised_bare, turn_bare}
 use Rattle.confidentiality_laws.proofs.Isolating.StepLemmas.{actor_alike, bare_recorded, step_alike}
 

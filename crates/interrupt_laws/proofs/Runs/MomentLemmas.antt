@@ -24,7 +24,7 @@ use Rattle.machine_model.specs.Stepping.Events.{killed, killed_if, picked, raise
 use Rattle.machine_model.specs.Stepping.Reservations.{unreserved}
 use Rattle.machine_model.specs.Stepping.Step.{acted, ends_handler, ends_thread, executed, performed}
 use Rattle.machine_laws.proofs.Threading.ThreadStepLemmas.{turned_to}
-use Rattle.confidentiality_laws.proofs.CauseCaseLemmas.{ActCase, EndsHandler, EndsThread, Instructs, act_of, is_step}
+use Rattle.machine_laws.proofs.Stepping.CauseCaseLemmas.{ActCase, EndsHandler, EndsThread, Instructs, act_of, is_step}
 use Rattle.interrupt_laws.specs.Arming.{Arms, Disarms, EndsClaim, TimerStore, timer_store, to_timer}
 use Rattle.interrupt_laws.specs.Raising.{other_effects, other_effects_of}
 use Rattle.interrupt_laws.proofs.BeforeTimerLemmas.{effects_are}

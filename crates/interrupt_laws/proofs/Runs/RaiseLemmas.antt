@@ -20,7 +20,7 @@ use Rattle.machine_model.proofs.Runs.TimerLemmas.{due_disarms, not_due, timed_ra
 use Rattle.machine_laws.proofs.Interrupting.IrqDeliveryLemmas.{settled_unanswered}
 use Rattle.machine_laws.proofs.Threading.ThreadAnswerLemmas.{ready_thread}
 use Rattle.machine_laws.proofs.Threading.ThreadStepLemmas.{actor_ready, step_of_thread}
-use Rattle.confidentiality_laws.proofs.CauseCaseLemmas.{is_step}
+use Rattle.machine_laws.proofs.Stepping.CauseCaseLemmas.{is_step}
 use Rattle.interrupt_laws.specs.Raising.{ElseNothing, IsRaise, RaiseIsEvent, other_effects}
 use Rattle.interrupt_laws.proofs.BeforeTimerLemmas.{before_timer, effects_are, raise_of}
 use Rattle.interrupt_laws.proofs.Runs.MomentLemmas.{effects_of, no_actor}

@@ -9,7 +9,7 @@ use Rattle.machine_model.specs.Runs.Moments.{ByStep, ByTurn, IsRun, Moment, caus
 use Rattle.machine_model.specs.State.Machine.{Claim, Machine}
 use Rattle.machine_model.specs.State.Order.{actor}
 use Rattle.machine_laws.proofs.Histories.LimitLemmas.{step_steps}
-use Rattle.confidentiality_laws.proofs.CauseCaseLemmas.{cause_counts}
+use Rattle.machine_laws.proofs.Stepping.CauseCaseLemmas.{cause_counts}
 use Rattle.interrupt_laws.specs.Arming.{Arms, Disarms, EndsClaim, LeavesTimer, TimerStore}
 use Rattle.interrupt_laws.specs.Raising.{IsRaise}
 use Rattle.interrupt_laws.specs.TimerLaw.{ArmingsAreMoments, IsArmedAt, IsArming, IsLeft, IsRaisedBy, IsRaisedByAny, IsRaising, IsStepOf}

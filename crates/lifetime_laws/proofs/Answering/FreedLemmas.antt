@@ -36,8 +36,8 @@ use Rattle.machine_model.specs.Stepping.Interrupts.{delivered, delivered_lowest,
 use Rattle.machine_model.specs.Stepping.Reservations.{unreserved}
 use Rattle.machine_model.specs.Stepping.Step.{Recorded, acted, counted, executed, record_of}
 use Rattle.machine_model.specs.Stepping.Timer.{is_due, raised_by_timer, timed, timed_if}
-use Rattle.confidentiality_laws.specs.TwoRuns.{records_by}
-use Rattle.confidentiality_laws.proofs.CauseCaseLemmas.{ActCase, CauseCase, EndsHandler, EndsThread, Instructs, Kills, Raises, Rests, Steps, case_of}
+use Rattle.machine_laws.specs.Records.{records_by}
+use Rattle.machine_laws.proofs.Stepping.CauseCaseLemmas.{ActCase, CauseCase, EndsHandler, EndsThread, Instructs, Kills, Raises, Rests, Steps, case_of}
 use Rattle.transcript_laws.specs.Answering.{awaits_reply, is_waiting}
 use Rattle.transcript_laws.specs.Serving.{DiesIn, told_by}
 use Rattle.transcript_laws.proofs.Following.StepLemmas.{numbered}

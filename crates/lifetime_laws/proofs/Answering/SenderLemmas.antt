@@ -9,7 +9,7 @@ use Rattle.xk_base.specs.declared.messages.Message.{Message}
 use Rattle.xk_base.specs.declared.records.Rec.{Rec}
 use Rattle.xk_base.specs.declared.records.What.{What}
 use Rattle.xk_base.specs.declared.records.What.TheVariants.{Reply}
-use Rattle.confidentiality_laws.specs.TwoRuns.{records_by}
+use Rattle.machine_laws.specs.Records.{records_by}
 use Rattle.machine_laws.proofs.Stepping.EveryStepLemmas.{every_run_keeps}
 use Rattle.machine_model.specs.Messaging.MessageCounts.{HasIf, HasOne, count_at, count_in}
 use Rattle.machine_model.specs.Messaging.Messages.{is_of_number, is_sent_by}

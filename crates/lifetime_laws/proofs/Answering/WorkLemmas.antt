@@ -3,7 +3,7 @@ use Rattle.std.proofs.Common.{◌≡◌, ℕ, zero, suc, ◌+◌, ◌*◌, ◌<�
 use Rattle.std.proofs.Math.Nat.{suc-mul}
 use Rattle.std.proofs.lemmas.Option.{none-some, same_Some}
 use Rattle.xk_base.specs.declared.ids.ThreadId.{ThreadId}
-use Rattle.confidentiality_laws.proofs.CauseCaseLemmas.{cause_counts}
+use Rattle.machine_laws.proofs.Stepping.CauseCaseLemmas.{cause_counts}
 use Rattle.machine_model.specs.Runs.Moments.{ByStep, Moment, IsRun, caused, state_at}
 use Rattle.machine_model.specs.State.Machine.{Machine}
 use Rattle.machine_model.specs.Stepping.Step.{step}

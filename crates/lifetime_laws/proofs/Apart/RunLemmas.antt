@@ -20,7 +20,7 @@ use Rattle.machine_model.specs.Stepping.Acts.{does_instruction}
 use Rattle.machine_model.specs.Stepping.Step.{step}
 use Rattle.machine_model.proofs.StepLemmas.{no_step}
 use Rattle.machine_laws.proofs.Stepping.EveryStepLemmas.{every_cause_keeps}
-use Rattle.confidentiality_laws.proofs.CauseCaseLemmas.{is_step}
+use Rattle.machine_laws.proofs.Stepping.CauseCaseLemmas.{is_step}
 use Rattle.noninterference_laws.specs.Integrity.{LeavesOthers}
 use Rattle.noninterference_laws.specs.Causes.{LeavesAll, StepKeepsOthers, by_step}
 use Rattle.noninterference_laws.specs.Fates.{Doing, Gains, Loses, MadeCall, Own, ServerFate, ServerStays}

@@ -24,11 +24,11 @@ use Rattle.machine_laws.proofs.Stepping.EveryStepLemmas.{every_cause_keeps}
 use Rattle.machine_laws.proofs.Stepping.StepKindLemmas.{is_call}
 use Rattle.machine_laws.proofs.Threading.ThreadStepLemmas.{turned_to}
 use Rattle.loan_laws.proofs.Fates.LikeLemmas.{settled_like, step_like}
-use Rattle.confidentiality_laws.proofs.CauseCaseLemmas.{ActCase, CauseCase, EndCase, EndsHandler, EndsThread, Instructs, IsLast, Kills, LeavesOthers, Raises, Rests, StartCase, Starts}
-use Rattle.confidentiality_laws.proofs.CauseCaseLemmas.{StartsNone, Steps, case_of, end_of, start_of}
+use Rattle.machine_laws.proofs.Stepping.CauseCaseLemmas.{ActCase, CauseCase, EndCase, EndsHandler, EndsThread, Instructs, IsLast, Kills, LeavesOthers, Raises, Rests, StartCase, Starts}
+use Rattle.machine_laws.proofs.Stepping.CauseCaseLemmas.{StartsNone, Steps, case_of, end_of, start_of}
 use Rattle.lifetime_laws.specs.Connecting.{ConnectsByOwnCalls, EveryMomentConnectsSo, EveryRunConnectsSo, IsConnecting, is_connected}
 use Rattle.lifetime_laws.proofs.Connecting.CallLemmas.{HasOnlyOld, call_connects, dead_old, old_connects, same_old}
-use Rattle.confidentiality_laws.specs.TwoRuns.{records_by}
+use Rattle.machine_laws.specs.Records.{records_by}
 use Rattle.machine_model.specs.Runs.Moments.{Cause, caused}
 use Rattle.machine_model.specs.State.Changes.{Change, Told}
 use Rattle.machine_model.specs.Stepping.Step.{acted}

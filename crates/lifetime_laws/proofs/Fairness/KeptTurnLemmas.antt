@@ -17,7 +17,7 @@ use Rattle.xk_base.specs.Calls.Registers.{arguments_of, reg_at}
 use Rattle.xk_base.specs.Tables.Counting.{put_at}
 use Rattle.call_effects.specs.Footprints.{CursorPart}
 use Rattle.call_effects.proofs.FootprintLemmas.{calls_leave_the_rest}
-use Rattle.confidentiality_laws.specs.TwoRuns.{records_by}
+use Rattle.machine_laws.specs.Records.{records_by}
 use Rattle.machine_laws.specs.HistoryMoments.{moments_of}
 use Rattle.machine_laws.proofs.Histories.MomentLemmas.{history_is_run}
 use Rattle.machine_laws.proofs.Threading.ThreadStepLemmas.{turned_to}

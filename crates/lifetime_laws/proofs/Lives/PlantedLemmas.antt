@@ -17,7 +17,7 @@ use Rattle.machine_model.specs.Runs.Matched.{is_living}
 use Rattle.machine_model.specs.Runs.Moments.{ByKill, ByStep, Cause, Moment}
 use Rattle.machine_model.specs.State.Machine.{Machine}
 use Rattle.machine_model.specs.Stepping.Acts.{call_by}
-use Rattle.confidentiality_laws.proofs.CauseCaseLemmas.{is_step}
+use Rattle.machine_laws.proofs.Stepping.CauseCaseLemmas.{is_step}
 use Rattle.confidentiality_laws.proofs.Keeping.StandingPageLemmas.{homed_once, not_both}
 use Rattle.lifetime_laws.specs.Causes.{IsCallOf}
 use Rattle.lifetime_laws.specs.Deeds.{Allocated, Bereft, Deed, Forwarded, GivenBack, GivenUp, Grown, Lent, LivesOn, Mapped, Moved}

@@ -32,14 +32,14 @@ use Rattle.machine_laws.proofs.Threading.ThreadMoveLemmas.{matched_reserved}
 use Rattle.machine_laws.proofs.Threading.ThreadStepLemmas.{actor_ready, turned_to}
 use Rattle.loan_laws.proofs.Fates.LikeLemmas.{IsLike, like_both, like_same, settled_like, step_like}
 use Rattle.confidentiality_laws.proofs.Spreading.CauseLemmas.{irq_ledger}
-use Rattle.confidentiality_laws.proofs.CauseCaseLemmas.{ActCase, CauseCase, EndCase, EndsHandler, EndsThread, Instructs, IsLast, Kills, LeavesOthers, Raises, Rests, StartCase, Starts}
-use Rattle.confidentiality_laws.proofs.CauseCaseLemmas.{StartsNone, Steps, case_of, end_of, is_step, start_of}
+use Rattle.machine_laws.proofs.Stepping.CauseCaseLemmas.{ActCase, CauseCase, EndCase, EndsHandler, EndsThread, Instructs, IsLast, Kills, LeavesOthers, Raises, Rests, StartCase, Starts}
+use Rattle.machine_laws.proofs.Stepping.CauseCaseLemmas.{StartsNone, Steps, case_of, end_of, is_step, start_of}
 use Rattle.lifetime_laws.specs.Lives.{EveryMomentLives, PagesLive}
 use Rattle.lifetime_laws.proofs.Lives.CallLemmas.{call_lives}
 use Rattle.lifetime_laws.proofs.Lives.DeathLemmas.{death_lives}
 use Rattle.lifetime_laws.proofs.Lives.StoreLemmas.{stored_lives}
 use Rattle.lifetime_laws.proofs.Lives.TurnLemmas.{left_lives}
-use Rattle.confidentiality_laws.specs.TwoRuns.{records_by}
+use Rattle.machine_laws.specs.Records.{records_by}
 use Rattle.machine_model.specs.Runs.Moments.{caused}
 use Rattle.machine_model.specs.State.Changes.{Change, Told}
 use Rattle.machine_model.specs.Stepping.Step.{executed}

@@ -23,9 +23,9 @@ use Rattle.machine_model.proofs.Runs.TimerLemmas.{pended_raised}
 use Rattle.machine_laws.proofs.Stepping.StepKindLemmas.{is_call}
 use Rattle.machine_laws.proofs.Threading.ThreadMoveLemmas.{matched_reserved}
 use Rattle.machine_laws.proofs.Threading.ThreadStepLemmas.{turned_to}
-use Rattle.confidentiality_laws.specs.TwoRuns.{records_by}
-use Rattle.confidentiality_laws.proofs.CauseCaseLemmas.{ActCase, CauseCase, EndCase, EndsHandler, EndsThread, Instructs, IsLast, Kills, LeavesOthers, Raises, Rests, StartCase, Starts}
-use Rattle.confidentiality_laws.proofs.CauseCaseLemmas.{StartsNone, Steps, case_of, end_of, start_of}
+use Rattle.machine_laws.specs.Records.{records_by}
+use Rattle.machine_laws.proofs.Stepping.CauseCaseLemmas.{ActCase, CauseCase, EndCase, EndsHandler, EndsThread, Instructs, IsLast, Kills, LeavesOthers, Raises, Rests, StartCase, Starts}
+use Rattle.machine_laws.proofs.Stepping.CauseCaseLemmas.{StartsNone, Steps, case_of, end_of, start_of}
 use Rattle.loan_laws.specs.Fates.{AllHaveFates, Fate}
 use Rattle.loan_laws.specs.Leaving.{Leaves}
 use Rattle.loan_laws.proofs.Fates.CallFateLemmas.{call_fate}

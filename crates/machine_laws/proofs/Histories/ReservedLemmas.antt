@@ -1,9 +1,8 @@
 -- The reservation stays that of a thread that the machine can have.
-use Rattle.std.proofs.Common.{◌≡◌, ℕ, Bool, true, false, List, Option, Some, None, refl, sym, ap, subst, ◌∙◌}
+use Rattle.std.proofs.Common.{◌≡◌, ℕ, Bool, true, false, List, Option, Some, None, refl, sym, ap, ◌∙◌}
 use Rattle.std.specs.Prelude.{if◌then◌else◌}
 use Rattle.std.proofs.lemmas.Option.{same_Some}
 use Rattle.xk_base.specs.declared.events.Event.{Event}
-use Rattle.xk_base.specs.declared.ids.Pid.{Pid}
 use Rattle.xk_base.specs.declared.ids.ThreadId.{ThreadId}
 use Rattle.xk_base.specs.declared.pages.Access.TheVariants.{Fetch}
 use Rattle.xk_base.specs.declared.pages.Width.TheVariants.{Word}
@@ -16,20 +15,18 @@ use Rattle.machine_model.specs.Ending.Ends.{death, forgotten, handler_ended, thr
 use Rattle.machine_model.specs.Hart.Atomics.{Atomic, atomic_at, execute, execute_at, leaving, perform, reserves, unless_ended}
 use Rattle.machine_model.specs.Hart.Instructions.{Executed, Next, Stores, StoresToConsole, StoresToTimer, CallsKernel, Traps, fetch_page_fault}
 use Rattle.machine_model.specs.Runs.Matched.{Matched}
-use Rattle.machine_model.specs.Runs.Moments.{Cause, ByStep, ByPick, ByIrq, ByKill, ByTurn, caused}
+use Rattle.machine_model.specs.Runs.Moments.{Cause, caused}
 use Rattle.machine_model.specs.State.Changes.{settled}
-use Rattle.machine_model.specs.State.Machine.{Claim, Machine, Reservation, Thread}
-use Rattle.machine_model.specs.State.Order.{actor, turn}
+use Rattle.machine_model.specs.State.Machine.{Machine, Reservation, Thread}
 use Rattle.machine_model.specs.State.Views.{stored, timer_set}
-use Rattle.machine_model.specs.Stepping.Events.{killed, killed_if, picked, raised, raised_if}
 use Rattle.machine_model.specs.Stepping.Reservations.{reservation_of, unreserved}
-use Rattle.machine_model.specs.Stepping.Step.{Recorded, acted, after, counted, ends_handler, ends_thread, executed, performed, reservation_left, step}
+use Rattle.machine_model.specs.Stepping.Step.{Recorded, acted, after, counted, ends_handler, ends_thread, executed, performed, reservation_left}
 use Rattle.machine_model.proofs.Runs.TimerLemmas.{pended_raised, timed_raised}
-use Rattle.machine_model.proofs.StepLemmas.{no_step}
 use Rattle.machine_laws.proofs.Stepping.EveryStepLemmas.{every_cause_keeps}
-use Rattle.machine_laws.proofs.Threading.ThreadAnswerLemmas.{IsReadyThread, ready_thread}
-use Rattle.machine_laws.proofs.Threading.ThreadStepLemmas.{actor_ready, step_of_thread, turned_to}
+use Rattle.machine_laws.proofs.Stepping.CauseCaseLemmas.{CauseCase, IsDead, Kills, NoneActs, Picks, Raises, RestCase, Rests, Steps, Turns, Unclaimed, case_of}
+use Rattle.machine_laws.proofs.Threading.ThreadStepLemmas.{turned_to}
 use Rattle.machine_laws.specs.History.{history}
+use Rattle.machine_laws.specs.Records.{records_by}
 use Rattle.machine_laws.specs.Reserved.{IsReservedByThread}
 use Rattle.machine_laws.proofs.Histories.MomentLemmas.{history_keeps}
 
@@ -92,40 +89,30 @@ module _ (m : Machine) (t : Thread) (r : Reservation) where
       go false true h = absurd (cc)
       go false false h = by_performed (performed m m.cursor t).reserved refl h
 
-step_reserved : (m : Machine) → Matched m → IsReservedByThread m → IsReservedByThread (step m).machine
-step_reserved m h c = go (actor m) refl
-  where
-    go : (o : Option ThreadId) → actor m ≡ o → IsReservedByThread (step m).machine
-    go None e = subst (λ (s : Recorded). IsReservedByThread s.machine) (sym (no_step m e)) c
-    go (Some who) e = λ r q.
-        let at : IsReadyThread m who = ready_thread m who (actor_ready m who e) in
-        let t : Thread = at.thread in
-        let turned : Machine = turned_to who m in
-        let is = step_of_thread m who t e at.there ∙ (timed_raised (counted turned (Some t) (acted turned t))).is in
-        let left : reservation_left turned t ≡ Some r = sym (ap (λ (x : Machine). x.reserved) is) ∙ q in
-        let own : IsOwn who m.processes r (acted turned t).machine = acted_own turned t r left in
-        let known : is_thread_id m.processes who ≡ true = h.body.ids.known who t at.there in
-        (λ i. is_thread_id ((ap (λ (x : Machine). x.processes) is ∙ own.same) i) (own.own i)) ∙ known
-
--- ---- events
-
-irq_reserved : (m : Machine) (k : ℕ) (o : Option Claim) → IsReservedByThread (raised_if k o (unreserved m)).machine
-irq_reserved m k None r h = absurd (let d : None ≡ Some r = h in cc)
-irq_reserved m k (Some claim) r h =
-    absurd (let d : None ≡ Some r = sym (ap (λ (n : Machine). n.reserved) (pended_raised k claim (unreserved m)).is) ∙ h in cc)
-
-kill_reserved : (m : Machine) (pid : Pid) (b : Bool) → IsReservedByThread (killed_if b pid (unreserved m)).machine
-unfolding settled death servers_closed closed senders_queued_gone senders_held_gone forgotten
-kill_reserved m pid true r h = absurd (let d : None ≡ Some r = h in cc)
-kill_reserved m pid false r h = absurd (let d : None ≡ Some r = h in cc)
+-- ---- any cause
 
 pub cause_reserved : (cause : Cause) (m : Machine) → Matched m → IsReservedByThread m → IsReservedByThread (caused cause m)
-unfolding picked raised killed turn
-cause_reserved ByStep m h c = step_reserved m h c
-cause_reserved (ByPick who) m h c = c
-cause_reserved (ByIrq k) m h c = irq_reserved m k (m.claims k)
-cause_reserved (ByKill pid) m h c = kill_reserved m pid (m.process pid.0).alive
-cause_reserved ByTurn m h c = c
+unfolding settled death servers_closed closed senders_queued_gone senders_held_gone forgotten
+cause_reserved cause m h c = by cause (record { machine = caused cause m; records = records_by cause m }) (case_of cause m)
+  where
+    rests : (cause : Cause) (cursor : ThreadId) (reserved : Option Reservation) → RestCase m cause cursor reserved
+        → IsReservedByThread (record m { cursor = cursor; reserved = reserved })
+    rests _ _ _ (NoneActs e) = c
+    rests _ _ _ (Picks who) = c
+    rests _ _ _ (Unclaimed k e) = λ r q. absurd (let d : None ≡ Some r = q in cc)
+    rests _ _ _ (IsDead pid e) = λ r q. absurd (let d : None ≡ Some r = q in cc)
+    rests _ _ _ Turns = c
+
+    by : (cause : Cause) (next : Recorded) → CauseCase m cause next → IsReservedByThread next.machine
+    by _ _ (Rests cause cursor reserved rest) = rests cause cursor reserved rest
+    by _ _ (Steps who t acts there case) = λ r q.
+        let turned : Machine = turned_to who m in
+        let is = (timed_raised (counted turned (Some t) (acted turned t))).is in
+        let own : IsOwn who m.processes r (acted turned t).machine = acted_own turned t r (sym (ap (λ (x : Machine). x.reserved) is) ∙ q) in
+        (λ i. is_thread_id ((ap (λ (x : Machine). x.processes) is ∙ own.same) i) (own.own i)) ∙ h.body.ids.known who t there
+    by _ _ (Raises k claim e) = λ r q.
+        absurd (let d : None ≡ Some r = sym (ap (λ (n : Machine). n.reserved) (pended_raised k claim (unreserved m)).is) ∙ q in cc)
+    by _ _ (Kills pid e) = λ r q. absurd (let d : None ≡ Some r = q in cc)
 
 -- ---- histories
 

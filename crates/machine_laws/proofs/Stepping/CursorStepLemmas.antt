@@ -1,6 +1,6 @@
 -- The cursor stays the id of a thread of the processes by every call and every step.
 use Rattle.std.proofs.Common.{◌≡◌, ℕ, Bool, true, false, List, [], ◌∷◌, ◌++◌, Option, Some, None, refl, sym, ap, ◌∙◌, subst}
-use Rattle.std.specs.Prelude.{if◌then◌else◌, nat_eq, unwrap_or}
+use Rattle.std.specs.Prelude.{nat_eq, unwrap_or}
 use Rattle.std.specs.List.{AllByRecursion}
 use Rattle.xk_base.specs.declared.errors.XousError.{XousError}
 use Rattle.xk_base.specs.declared.errors.XousError.TheVariants.{ServerNotFound, ServerQueueFull, UnhandledSyscall}
@@ -13,7 +13,6 @@ use Rattle.xk_base.specs.declared.limits.TheConstants.{TIMER_INTERRUPT}
 use Rattle.xk_base.specs.declared.messages.Message.{Message}
 use Rattle.xk_base.specs.declared.messages.MsgKind.{MsgKind}
 use Rattle.xk_base.specs.declared.messages.MsgKind.TheVariants.{Scalar}
-use Rattle.xk_base.specs.declared.records.What.TheVariants.{End}
 use Rattle.syscall_codec.specs.CallNumbers.{call_numbers, is_call_number}
 use Rattle.syscall_codec.specs.CallWords.{call_number, forward_cid, heap_bytes, interrupt_argument, interrupt_handler, interrupt_number}
 use Rattle.syscall_codec.specs.CallWords.{join_tid, map_flags, map_phys, map_size, map_virt, range_address, range_flags, range_size}
@@ -50,16 +49,16 @@ use Rattle.machine_model.specs.State.Order.{actor, next_ready, ready_at, turn}
 use Rattle.machine_model.specs.State.Servers.{change_server}
 use Rattle.machine_model.specs.State.Threads.{answer_to, change_thread, put_thread, thread_id, with_state}
 use Rattle.machine_model.specs.State.Views.{stored, timer_set}
-use Rattle.machine_model.specs.Stepping.Interrupts.{delivered, delivered_lowest, handler_started, is_free_for_interrupt, lowest_pending, with_handler_next}
-use Rattle.machine_model.specs.Stepping.Step.{Recorded, acted_if_there, after, counted, ends_handler, ends_thread, executed, performed, step}
+use Rattle.machine_model.specs.Stepping.Interrupts.{delivered, with_handler_next}
+use Rattle.machine_model.specs.Stepping.Step.{Recorded, acted, counted, executed, step}
 use Rattle.machine_model.specs.Stepping.Timer.{is_due, raised_by_timer, timed, timed_if}
 use Rattle.machine_model.proofs.State.CursorLemmas.{all_keep_cursor}
 use Rattle.machine_model.proofs.StepLemmas.{no_step}
 use Rattle.machine_model.proofs.Runs.TimerLemmas.{timed_raised}
 use Rattle.machine_laws.proofs.Stepping.EveryStepLemmas.{every_step_keeps, turned_list}
 use Rattle.machine_laws.proofs.Stepping.CallNumberLemmas.{in_list, outside_refused}
-use Rattle.machine_laws.proofs.Threading.ThreadAnswerLemmas.{IsReadyThread, ready_thread}
-use Rattle.machine_laws.proofs.Threading.ThreadStepLemmas.{actor_ready, step_of_actor, turned_to}
+use Rattle.machine_laws.proofs.Stepping.CauseCaseLemmas.{ActCase, EndsHandler, EndsThread, Instructs, StartCase, Starts, StartsNone, act_of, start_of}
+use Rattle.machine_laws.proofs.Threading.ThreadStepLemmas.{step_of_thread, turned_to}
 
 -- the cursor of a machine is the id of a thread of its processes
 abbrev Stands : Machine → Type 0
@@ -356,29 +355,19 @@ module _ (m : Machine) (c : Stands m) (w : List ℕ) where
 
 module _ (m : Machine) (c : Stands m) where
   delivered_stands : (pid : Pid) → Stands (delivered pid m).machine
-  unfolding delivered
-  delivered_stands pid = lowest (if is_free_for_interrupt m pid then lowest_pending m pid else None)
+  delivered_stands pid = by (delivered pid m) (start_of pid m)
     where
-      started : (k : ℕ) (claim : Option Claim) → Stands (handler_started m pid k claim).machine
-      started k None = c
-      started k (Some claim) = c
-
-      lowest : (o : Option ℕ) → Stands (delivered_lowest m pid o).machine
-      lowest None = c
-      lowest (Some k) = started k (m.claims k)
+      by : (change : Change) → StartCase pid m change → Stands change.machine
+      by _ StartsNone = c
+      by _ (Starts k claim e) = c
 
   -- .. also where the cursor goes to the handler's thread
   handled_stands : (pid : Pid) → is_pid m.processes pid.0 ≡ true → Stands (with_handler_next (delivered pid m)).machine
-  unfolding delivered
-  handled_stands pid known = lowest (if is_free_for_interrupt m pid then lowest_pending m pid else None)
+  handled_stands pid known = by (delivered pid m) (start_of pid m)
     where
-      started : (k : ℕ) (claim : Option Claim) → Stands (with_handler_next (handler_started m pid k claim)).machine
-      started k None = c
-      started k (Some claim) = rw known refl
-
-      lowest : (o : Option ℕ) → Stands (with_handler_next (delivered_lowest m pid o)).machine
-      lowest None = c
-      lowest (Some k) = started k (m.claims k)
+      by : (change : Change) → StartCase pid m change → Stands (with_handler_next change).machine
+      by _ StartsNone = c
+      by _ (Starts k claim e) = rw known refl
 
   thread_ended_stands : (who : ThreadId) (a0 : ℕ) → Stands (settled (thread_ended who a0 m)).machine
   unfolding settled thread_ended
@@ -401,16 +390,10 @@ handler_ended_stands : (m : Machine) → Stands m → Stands (settled (handler_e
 unfolding settled handler_ended
 handler_ended_stands m c = delivered_stands (change_thread (thread_id m.cursor.pid 1) (with_state Idle) m) c m.cursor.pid
 
-acted_stands : (m : Machine) → Stands m → (o : Option Thread) → Stands (acted_if_there m o).machine
-acted_stands m c None = c
-acted_stands m c (Some t) = go (ends_thread m.cursor t.pc) (ends_handler m.cursor t.pc)
-  where
-    go : (a b : Bool) → Stands (if a then after (End m.cursor) (settled (thread_ended m.cursor (reg_at t.regs 10) m)) else (
-        if b then after (End m.cursor) (settled (handler_ended m.cursor.pid m)) else
-        executed m t (performed m m.cursor t).executed)).machine
-    go true b = thread_ended_stands m c m.cursor (reg_at t.regs 10)
-    go false true = handler_ended_stands m c
-    go false false = executed_stands m c t (performed m m.cursor t).executed
+acted_stands : (m : Machine) (who : ThreadId) (t : Thread) → Stands (turned_to who m) → (done : Told) → ActCase m who t done → Stands done.machine
+acted_stands m who t c _ (Instructs x e) = executed_stands (turned_to who m) c t x
+acted_stands m who t c _ (EndsThread e) = thread_ended_stands (turned_to who m) c who (reg_at t.regs 10)
+acted_stands m who t c _ (EndsHandler e) = handler_ended_stands (turned_to who m) c
 
 -- the timer's interrupt starts a handler of a process that there is, where the machine is matched afterwards
 timed_stands : (done : Told) → Stands done.machine → Matched (timed done).machine → Stands (timed done).machine
@@ -446,11 +429,13 @@ step_keeps_cursor m h c = go (actor m) refl
   where
     acts : (who : ThreadId) → actor m ≡ Some who → Stands (step m).machine
     acts who e =
-        let r : IsReadyThread m who = ready_thread m who (actor_ready m who e) in
-        let there : Stands (turned_to who m) = h.body.ids.known who r.thread r.there in
-        let done : Told = counted (turned_to who m) (m.threads who) (acted_if_there (turned_to who m) (m.threads who)) in
-        subst Stands (sym (step_of_actor m who e))
-        (timed_stands done (acted_stands (turned_to who m) there (m.threads who)) (subst Matched (step_of_actor m who e) (every_step_keeps m h)))
+        let act = act_of m who e in
+        let there : Stands (turned_to who m) = h.body.ids.known who act.thread act.there in
+        let done : Told = acted (turned_to who m) act.thread in
+        let is = step_of_thread m who act.thread e act.there in
+        subst Stands (sym is)
+        (timed_stands (counted (turned_to who m) (Some act.thread) done) (acted_stands m who act.thread there done act.case)
+        (subst Matched is (every_step_keeps m h)))
 
     go : (o : Option ThreadId) → actor m ≡ o → Stands (step m).machine
     go None e = subst (λ (s : Recorded). Stands s.machine) (sym (no_step m e)) c

@@ -1,5 +1,5 @@
 -- A step is an instruction, a call, a trap or an end: where each of the others keeps the machine matched, every step does.
-use Rattle.std.proofs.Common.{◌≡◌, ℕ, Bool, true, false, List, [], Option, Some, None, refl, sym, ap, ◌∙◌, subst}
+use Rattle.std.proofs.Common.{◌≡◌, ℕ, Bool, true, false, List, Option, Some, None, refl, sym, ap, ◌∙◌, subst}
 use Rattle.std.specs.Prelude.{◌==◌, nat_lt}
 use Rattle.std.proofs.lemmas.Bool.{and_parts, eqb-true, ltb-true}
 use Rattle.xk_base.proofs.CircleLemmas.{same_ids}
@@ -7,7 +7,7 @@ use Rattle.xk_base.specs.declared.ids.Pid.{Pid}
 use Rattle.xk_base.specs.declared.ids.ThreadId.{ThreadId}
 use Rattle.xk_base.specs.Calls.Registers.{arguments_of, reg_at}
 use Rattle.machine_model.specs.Stepping.Acts.{call_by, executes}
-use Rattle.machine_model.specs.State.Changes.{settled}
+use Rattle.machine_model.specs.State.Changes.{Told, settled}
 use Rattle.machine_model.specs.Ending.Ends.{death, handler_ended, has_threads, thread_ended}
 use Rattle.machine_model.specs.Hart.Instructions.{Executed, Next, Stores, StoresToConsole, StoresToTimer, CallsKernel, Traps}
 use Rattle.machine_model.specs.Runs.Kept.{Settles, StepKeepsMatched}
@@ -15,7 +15,7 @@ use Rattle.machine_model.specs.State.Machine.{Machine, Thread}
 use Rattle.machine_model.specs.Runs.Matched.{Matched, is_living}
 use Rattle.machine_model.specs.State.Order.{actor, ready_at}
 use Rattle.machine_model.specs.State.Threads.{handler_return, put_thread, thread_id, thread_return}
-use Rattle.machine_model.specs.Stepping.Step.{step, ends_thread, ends_handler, performed}
+use Rattle.machine_model.specs.Stepping.Step.{acted, step, ends_thread, ends_handler, executed}
 use Rattle.machine_model.proofs.Runs.KeptLemmas.{matched_at}
 use Rattle.machine_model.proofs.StepLemmas.{no_step}
 use Rattle.machine_laws.proofs.Dying.DeathLemmas.{death_keeps}
@@ -23,9 +23,10 @@ use Rattle.machine_laws.proofs.Dying.DeathStepLemmas.{last_keeps}
 use Rattle.machine_laws.proofs.Interrupting.IrqHandlerLemmas.{handler_end_keeps}
 use Rattle.machine_laws.proofs.Threading.EndThreadLemmas.{thread_end_keeps}
 use Rattle.machine_laws.proofs.Executing.InstructionStepLemmas.{instruction_matched}
-use Rattle.machine_laws.proofs.Stepping.StepKindLemmas.{StepKind, Executes, ThreadEnds, HandlerEnds, acted_as_executed, is_call, is_done, kind_of}
+use Rattle.machine_laws.proofs.Stepping.CauseCaseLemmas.{ActCase, EndsHandler, EndsThread, Instructs, act_of}
+use Rattle.machine_laws.proofs.Stepping.StepKindLemmas.{is_call, is_done}
 use Rattle.machine_laws.proofs.Threading.ThreadAnswerLemmas.{ready_lives}
-use Rattle.machine_laws.proofs.Threading.ThreadStepLemmas.{actor_ready, step_keeps, then_acted, turned_to}
+use Rattle.machine_laws.proofs.Threading.ThreadStepLemmas.{actor_ready, step_keeps, turned_to}
 
 abbrev pub CallsKeep : Type 0
 CallsKeep = (m : Machine) (who : ThreadId) (words : List ℕ) → Matched m → actor m ≡ Some who → call_by m who ≡ Some words → Matched (step m).machine
@@ -56,37 +57,35 @@ module _ (calls : CallsKeep) (deaths : DeathsKeep) (ends : ThreadEndsKeep) (hand
   ready : ready_at m who ≡ true
   ready = actor_ready m who acts
 
-  executed_case : (t : Thread) → m.threads who ≡ Some t → (x : Executed) → executes m who t ≡ Some x → Matched (step m).machine
-  executed_case t q (Next regs pc) e = instruction_matched m who h acts (is_done m who t q (Next regs pc) e refl)
-  executed_case t q (Stores address width value regs pc) e =
+  executed_case : (t : Thread) → m.threads who ≡ Some t → (x : Executed) → executes m who t ≡ Some x
+      → (Settles m (executed n t x).machine → Matched (step m).machine) → Matched (step m).machine
+  executed_case t q (Next regs pc) e settle = instruction_matched m who h acts (is_done m who t q (Next regs pc) e refl)
+  executed_case t q (Stores address width value regs pc) e settle =
       instruction_matched m who h acts (is_done m who t q (Stores address width value regs pc) e refl)
-  executed_case t q (StoresToConsole offset value regs pc) e =
+  executed_case t q (StoresToConsole offset value regs pc) e settle =
       instruction_matched m who h acts (is_done m who t q (StoresToConsole offset value regs pc) e refl)
-  executed_case t q (StoresToTimer offset width value regs pc) e =
+  executed_case t q (StoresToTimer offset width value regs pc) e settle =
       instruction_matched m who h acts (is_done m who t q (StoresToTimer offset width value regs pc) e refl)
-  executed_case t q CallsKernel e = calls m who (arguments_of t.regs) h acts (is_call m who t q e)
-  executed_case t q (Traps cause value) e =
-      step_keeps m who t acts q (subst (λ told. Settles m told.machine) (sym (acted_as_executed m who t (Traps cause value) e))
-      (deaths n who.pid there (ready_lives n there who ready)))
+  executed_case t q CallsKernel e settle = calls m who (arguments_of t.regs) h acts (is_call m who t q e)
+  executed_case t q (Traps cause value) e settle = settle (deaths n who.pid there (ready_lives n there who ready))
 
-  kind_case : StepKind m who → Matched (step m).machine
-  kind_case (Executes t x q e) = executed_case t q x e
-  kind_case (ThreadEnds t q e) =
-      step_keeps m who t acts q
-      (subst (λ b. Settles m (then_acted m who [] t b (ends_handler who t.pc) (performed n who t).executed).machine) (sym e)
-      (ends n who (reg_at t.regs 10) t there ready q e))
-  kind_case (HandlerEnds t q low e) =
-      step_keeps m who t acts q
-      (subst (λ b. Settles m (then_acted m who [] t b (ends_handler who t.pc) (performed n who t).executed).machine) (sym low)
-      (subst (λ b. Settles m (then_acted m who [] t false b (performed n who t).executed).machine) (sym e)
-      (handlers n who t there ready q e)))
+  act_case : (t : Thread) → m.threads who ≡ Some t → (done : Told) → (Settles m done.machine → Matched (step m).machine)
+      → ActCase m who t done → Matched (step m).machine
+  act_case t q _ settle (Instructs x e) = executed_case t q x e settle
+  act_case t q _ settle (EndsThread e) = settle (ends n who (reg_at t.regs 10) t there ready q e)
+  act_case t q _ settle (EndsHandler e) = settle (handlers n who t there ready q e)
+
+  acts_case : Matched (step m).machine
+  acts_case =
+      let act = act_of m who acts in
+      act_case act.thread act.there (acted n act.thread) (step_keeps m who act.thread acts act.there) act.case
 
 pub all_steps_keep : CallsKeep → DeathsKeep → ThreadEndsKeep → HandlerEndsKeep → StepKeepsMatched
 all_steps_keep calls deaths ends handlers m h = go (actor m) refl
   where
     go : (o : Option ThreadId) → actor m ≡ o → Matched (step m).machine
     go None e = subst (λ s. Matched s.machine) (sym (no_step m e)) h
-    go (Some who) e = kind_case calls deaths ends handlers m who h e (kind_of m who e)
+    go (Some who) e = acts_case calls deaths ends handlers m who h e
 
 -- ---- where calls do
 

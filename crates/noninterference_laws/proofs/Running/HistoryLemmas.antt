@@ -15,7 +15,7 @@ use Rattle.machine_laws.proofs.Stepping.EveryStepLemmas.{every_cause_keeps}
 use Rattle.machine_laws.specs.History.{History, reached, stopped, behind, go_on, ticks, play, history}
 use Rattle.machine_laws.specs.HistoryMoments.{tick_moments, event_moments, moments_of}
 use Rattle.machine_laws.proofs.Histories.MomentLemmas.{history_is_run, history_last}
-use Rattle.confidentiality_laws.proofs.Histories.RecordLemmas.{history_tells}
+use Rattle.machine_laws.proofs.Histories.RecordLemmas.{history_tells}
 use Rattle.confidentiality_laws.proofs.Isolating.RunLemmas.{by_cause}
 use Rattle.noninterference_laws.specs.Acting.{ActsAlike}
 use Rattle.noninterference_laws.specs.Inside.{Group, SameButInside}

@@ -4,7 +4,7 @@ use Rattle.machine_model.specs.Runs.Matched.{Matched}
 use Rattle.machine_model.specs.Runs.Moments.{Cause, IsRun, Moment, caused, state_at}
 use Rattle.machine_model.specs.State.Machine.{Machine}
 use Rattle.machine_laws.proofs.Stepping.EveryStepLemmas.{every_cause_keeps}
-use Rattle.confidentiality_laws.specs.TwoRuns.{records_by, records_of}
+use Rattle.machine_laws.specs.Records.{records_by, records_of}
 use Rattle.confidentiality_laws.proofs.Isolating.RunLemmas.{no_cause}
 use Rattle.noninterference_laws.specs.Acting.{ActsAlike}
 use Rattle.noninterference_laws.specs.Inside.{Group, SameButInside}

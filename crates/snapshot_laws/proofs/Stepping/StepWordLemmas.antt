@@ -33,8 +33,8 @@ use Rattle.machine_model.proofs.Runs.KeptLemmas.{matched_at}
 use Rattle.machine_laws.proofs.Executing.InstructionEffectLemmas.{execute_at_sound, is_store_whole}
 use Rattle.machine_laws.proofs.Threading.ThreadStepLemmas.{turned_to}
 use Rattle.call_effects.specs.Effects.{EndsTurn}
-use Rattle.confidentiality_laws.specs.TwoRuns.{records_by}
-use Rattle.confidentiality_laws.proofs.CauseCaseLemmas.{CauseCase, IsDead, Kills, NoneActs, Picks, Raises, RestCase, Rests, Steps, Turns, Unclaimed, case_of}
+use Rattle.machine_laws.specs.Records.{records_by}
+use Rattle.machine_laws.proofs.Stepping.CauseCaseLemmas.{CauseCase, IsDead, Kills, NoneActs, Picks, Raises, RestCase, Rests, Steps, Turns, Unclaimed, case_of}
 use Rattle.snapshot_laws.specs.KeepingWords.{AllKeepWords}
 use Rattle.snapshot_laws.specs.Words.{IsMachineOfWords, IsThreadOfWords, greatest}
 use Rattle.snapshot_laws.proofs.Calling.AnswerWordLemmas.{refused_are, settled_keeps}

@@ -33,11 +33,11 @@ use Rattle.call_effects.proofs.PartLemmas.{OfChanging, of_parts}
 use Rattle.call_effects.proofs.RowLemmas.{◌also◌}
 use Rattle.call_effects.proofs.ServedLemmas.{OfServed}
 use Rattle.loan_laws.proofs.Fates.LikeLemmas.{call_like, like_raised, served_like, settled_like}
-use Rattle.confidentiality_laws.proofs.CauseCaseLemmas.{ActCase, CauseCase, EndCase, EndsHandler, EndsThread, Instructs, IsLast, Kills, LeavesOthers, Raises, Rests, StartCase, Starts}
-use Rattle.confidentiality_laws.proofs.CauseCaseLemmas.{StartsNone, Steps, case_of, end_of, start_of}
+use Rattle.machine_laws.proofs.Stepping.CauseCaseLemmas.{ActCase, CauseCase, EndCase, EndsHandler, EndsThread, Instructs, IsLast, Kills, LeavesOthers, Raises, Rests, StartCase, Starts}
+use Rattle.machine_laws.proofs.Stepping.CauseCaseLemmas.{StartsNone, Steps, case_of, end_of, start_of}
 use Rattle.transcript_laws.specs.Accepting.{Accepts, GivesNumbers}
 use Rattle.call_effects.proofs.ServedLemmas.{done}
-use Rattle.confidentiality_laws.specs.TwoRuns.{records_by}
+use Rattle.machine_laws.specs.Records.{records_by}
 use Rattle.machine_model.proofs.Runs.TimerLemmas.{timed_raised}
 use Rattle.machine_model.specs.State.Changes.{Told}
 use Rattle.machine_model.specs.Stepping.Step.{Recorded, counted}

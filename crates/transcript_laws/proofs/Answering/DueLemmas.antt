@@ -37,15 +37,15 @@ use Rattle.machine_laws.proofs.Stepping.StepKindLemmas.{is_call}
 use Rattle.machine_laws.proofs.Threading.ThreadMoveLemmas.{matched_reserved}
 use Rattle.machine_laws.proofs.Threading.ThreadPutLemmas.{alike}
 use Rattle.machine_laws.proofs.Threading.ThreadStepLemmas.{actor_ready, turned_to}
-use Rattle.confidentiality_laws.proofs.CauseCaseLemmas.{ActCase, CauseCase, EndsHandler, EndsThread, Instructs, Kills, Raises, Rests, StartCase, Starts, StartsNone}
-use Rattle.confidentiality_laws.proofs.CauseCaseLemmas.{Steps, case_of, start_of}
+use Rattle.machine_laws.proofs.Stepping.CauseCaseLemmas.{ActCase, CauseCase, EndsHandler, EndsThread, Instructs, Kills, Raises, Rests, StartCase, Starts, StartsNone}
+use Rattle.machine_laws.proofs.Stepping.CauseCaseLemmas.{Steps, case_of, start_of}
 use Rattle.transcript_laws.specs.Answering.{AnswersWhoWaits, IsCaller, IsReplyDue, RepliesAreDue, awaits_reply, is_waiting}
 use Rattle.transcript_laws.proofs.Answering.CallFitLemmas.{by_either}
 use Rattle.transcript_laws.proofs.Answering.CallTableLemmas.{calls_answer_who_waits}
 use Rattle.transcript_laws.proofs.Answering.FitLemmas.{sender_at_waits}
 use Rattle.transcript_laws.proofs.Ordering.ChangeLemmas.{all_with_irq}
 use Rattle.call_effects.proofs.ServedLemmas.{done}
-use Rattle.confidentiality_laws.specs.TwoRuns.{records_by}
+use Rattle.machine_laws.specs.Records.{records_by}
 use Rattle.machine_model.specs.Runs.Moments.{caused}
 
 -- ---- what a change tells

@@ -11,7 +11,7 @@ use Rattle.xk_base.specs.declared.records.What.{What}
 use Rattle.xk_base.specs.declared.records.What.TheVariants.{Byte, End, Fault}
 use Rattle.xk_base.specs.Calls.Registers.{arguments_of, reg_at}
 use Rattle.xk_base.specs.Tables.Circle.{same_thread}
-use Rattle.confidentiality_laws.specs.TwoRuns.{records_by, records_of}
+use Rattle.machine_laws.specs.Records.{records_by, records_of}
 use Rattle.machine_laws.specs.HistoryMoments.{moments_of}
 use Rattle.machine_laws.proofs.Histories.MomentLemmas.{history_is_run}
 use Rattle.machine_model.specs.Ending.Ends.{death, handler_ended, thread_ended}
@@ -33,7 +33,7 @@ use Rattle.machine_laws.proofs.Threading.ThreadAnswerLemmas.{IsReadyThread, read
 use Rattle.machine_laws.proofs.Threading.ThreadMoveLemmas.{matched_reserved}
 use Rattle.machine_laws.proofs.Threading.ThreadPutLemmas.{alike}
 use Rattle.machine_laws.proofs.Threading.ThreadStepLemmas.{actor_ready, step_of_thread, turned_to}
-use Rattle.confidentiality_laws.proofs.CauseCaseLemmas.{ActCase, CauseCase, EndsHandler, EndsThread, Instructs, Kills, Raises, Rests, Steps, case_of}
+use Rattle.machine_laws.proofs.Stepping.CauseCaseLemmas.{ActCase, CauseCase, EndsHandler, EndsThread, Instructs, Kills, Raises, Rests, Steps, case_of}
 use Rattle.transcript_laws.specs.AnsweredOnce.{AnsweredOnce, Free, LeadsIf, Says, SayInTurn, StandingsFollow, standing, standing_by}
 use Rattle.transcript_laws.specs.Answering.{awaits_reply, is_waiting}
 use Rattle.transcript_laws.proofs.Answering.CallSayLemmas.{call_tells}

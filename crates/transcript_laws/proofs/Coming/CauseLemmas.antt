@@ -29,13 +29,13 @@ use Rattle.confidentiality_laws.proofs.Keeping.DeathLemmas.{death_orphans}
 use Rattle.confidentiality_laws.proofs.Spreading.CauseLemmas.{irq_ledger}
 use Rattle.confidentiality_laws.proofs.Spreading.StepLemmas.{handler_ledger}
 use Rattle.loan_laws.proofs.Fates.LikeLemmas.{call_like, settled_like, step_like}
-use Rattle.confidentiality_laws.proofs.CauseCaseLemmas.{ActCase, CauseCase, EndCase, EndsHandler, EndsThread, Instructs, IsLast, Kills, LeavesOthers, Raises, Rests, Steps, case_of}
-use Rattle.confidentiality_laws.proofs.CauseCaseLemmas.{end_of}
+use Rattle.machine_laws.proofs.Stepping.CauseCaseLemmas.{ActCase, CauseCase, EndCase, EndsHandler, EndsThread, Instructs, IsLast, Kills, LeavesOthers, Raises, Rests, Steps, case_of}
+use Rattle.machine_laws.proofs.Stepping.CauseCaseLemmas.{end_of}
 use Rattle.transcript_laws.specs.Coming.{AllPagesCome, IsLent, IsMade, IsMoved, PagesCome}
 use Rattle.transcript_laws.proofs.Coming.LedgerLemmas.{NoneComes, none_comes, only_orphans, same_ledger, write_none}
 use Rattle.transcript_laws.proofs.Coming.RowLemmas.{call_comes}
 use Rattle.transcript_laws.proofs.Serving.AtServerLemmas.{arrives_like, call_turned, served_like}
-use Rattle.confidentiality_laws.specs.TwoRuns.{records_by}
+use Rattle.machine_laws.specs.Records.{records_by}
 use Rattle.machine_model.specs.Runs.Moments.{caused}
 use Rattle.machine_model.specs.State.Changes.{Told}
 use Rattle.machine_model.specs.Stepping.Step.{acted, executed}

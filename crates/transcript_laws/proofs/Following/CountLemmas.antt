@@ -12,7 +12,7 @@ use Rattle.syscall_codec.specs.CallNumbers.{destroy_server, forward_message, ret
 use Rattle.syscall_codec.specs.CallNumbers.{try_send_message}
 use Rattle.syscall_codec.specs.CallWords.{call_number, forward_token, return_token}
 use Rattle.xk_base.specs.Calls.Kinds.{is_waiting_kind}
-use Rattle.confidentiality_laws.specs.TwoRuns.{records_of}
+use Rattle.machine_laws.specs.Records.{records_of}
 use Rattle.machine_laws.specs.HistoryMoments.{moments_of}
 use Rattle.machine_laws.proofs.Histories.MomentLemmas.{history_is_run}
 use Rattle.machine_model.specs.Runs.Matched.{Matched}

@@ -8,7 +8,7 @@ use Rattle.xk_base.specs.declared.records.Rec.{Rec}
 use Rattle.xk_base.specs.declared.records.What.{What}
 use Rattle.xk_base.specs.declared.records.What.TheVariants.{Reply}
 use Rattle.xk_base.specs.Calls.Kinds.{is_waiting_kind}
-use Rattle.confidentiality_laws.specs.TwoRuns.{records_of}
+use Rattle.machine_laws.specs.Records.{records_of}
 use Rattle.machine_laws.specs.HistoryMoments.{moments_of}
 use Rattle.machine_laws.proofs.Histories.MomentLemmas.{history_is_run}
 use Rattle.machine_model.specs.Runs.Matched.{Matched}

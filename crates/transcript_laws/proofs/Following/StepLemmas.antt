@@ -19,7 +19,7 @@ use Rattle.xk_base.specs.Calls.Registers.{arguments_of, reg_at}
 use Rattle.syscall_codec.specs.ReplyWords.{plain_words, refused_words, scalar1_words}
 use Rattle.xk_base.specs.Tables.Circle.{is_thread_id, same_thread}
 use Rattle.xk_base.specs.Tables.Counting.{put_at}
-use Rattle.confidentiality_laws.specs.TwoRuns.{records_by, records_of}
+use Rattle.machine_laws.specs.Records.{records_by, records_of}
 use Rattle.machine_laws.specs.HistoryMoments.{moments_of}
 use Rattle.machine_laws.proofs.Histories.MomentLemmas.{history_is_run}
 use Rattle.machine_model.specs.Calling.Calls.{call}
@@ -43,8 +43,8 @@ use Rattle.machine_laws.proofs.Stepping.EveryStepLemmas.{every_cause_keeps}
 use Rattle.machine_laws.proofs.Threading.ThreadAnswerLemmas.{same_thread-self}
 use Rattle.machine_laws.proofs.Threading.ThreadStepLemmas.{actor_ready, turned_to}
 use Rattle.call_effects.proofs.ServedLemmas.{OfServed}
-use Rattle.confidentiality_laws.proofs.CauseCaseLemmas.{ActCase, CauseCase, EndCase, EndsHandler, EndsThread, Instructs, IsLast, Kills, LeavesOthers, Raises, Rests, StartCase, Starts}
-use Rattle.confidentiality_laws.proofs.CauseCaseLemmas.{StartsNone, Steps, case_of, end_of, start_of}
+use Rattle.machine_laws.proofs.Stepping.CauseCaseLemmas.{ActCase, CauseCase, EndCase, EndsHandler, EndsThread, Instructs, IsLast, Kills, LeavesOthers, Raises, Rests, StartCase, Starts}
+use Rattle.machine_laws.proofs.Stepping.CauseCaseLemmas.{StartsNone, Steps, case_of, end_of, start_of}
 use Rattle.transcript_laws.specs.Following.{Lacks, MessagesFollow, Leads, LeadInTurn, Standing, Stands, Stays, is_message_of, is_plain}
 use Rattle.transcript_laws.specs.Following.{is_return_call, is_served_by, keeping, next_answer}
 use Rattle.transcript_laws.proofs.Following.EndLemmas.{death_keeps}

@@ -16,7 +16,7 @@ use Rattle.xk_base.specs.Calls.Registers.{arguments_of, reg_at}
 use Rattle.syscall_codec.specs.ReplyWords.{refused_words}
 use Rattle.xk_base.specs.Tables.Counting.{put_at}
 use Rattle.call_effects.proofs.LeadingLemmas.{Leads, call_leads}
-use Rattle.confidentiality_laws.specs.TwoRuns.{records_by}
+use Rattle.machine_laws.specs.Records.{records_by}
 use Rattle.machine_model.specs.Calling.Calls.{call}
 use Rattle.machine_model.specs.Ending.Closing.{closed, servers_closed}
 use Rattle.machine_model.specs.Ending.Ends.{death, end_with_last_thread, handler_ended, has_threads, thread_ended}
@@ -30,7 +30,7 @@ use Rattle.machine_model.specs.Stepping.Reservations.{unreserved}
 use Rattle.machine_model.specs.Stepping.Step.{acted_if_there, after, console_told, counted, ends_handler, ends_thread, executed, performed, record_of}
 use Rattle.machine_model.specs.Stepping.Timer.{is_due, raised_by_timer, timed, timed_if, timer_change}
 use Rattle.machine_laws.proofs.Threading.ThreadAnswerLemmas.{same_thread-self}
-use Rattle.confidentiality_laws.proofs.CauseCaseLemmas.{CauseCase, Kills, Raises, Rests, Steps, case_of}
+use Rattle.machine_laws.proofs.Stepping.CauseCaseLemmas.{CauseCase, Kills, Raises, Rests, Steps, case_of}
 use Rattle.transcript_laws.specs.RecordOrder.{IsBefore, StandInOrder, rank}
 use Rattle.transcript_laws.proofs.Ordering.ChangeLemmas.{IsNoIrqOf, IsOrdered, all_told, first_ordered, settled_late, settled_ordered}
 use Rattle.transcript_laws.proofs.Ordering.ChangeLemmas.{with_irq_if_ordered}

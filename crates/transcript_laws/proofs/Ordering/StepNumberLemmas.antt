@@ -6,7 +6,7 @@ use Rattle.xk_base.specs.declared.events.Event.{Event}
 use Rattle.xk_base.specs.declared.ids.Pid.{Pid}
 use Rattle.xk_base.specs.declared.records.Rec.{Rec}
 use Rattle.xk_base.specs.declared.records.What.{What}
-use Rattle.confidentiality_laws.specs.TwoRuns.{records_by, records_of}
+use Rattle.machine_laws.specs.Records.{records_by, records_of}
 use Rattle.machine_laws.specs.HistoryMoments.{moments_of}
 use Rattle.machine_laws.proofs.Histories.MomentLemmas.{history_is_run}
 use Rattle.machine_model.specs.Ending.Ends.{death}
@@ -19,7 +19,7 @@ use Rattle.machine_model.specs.Stepping.Step.{counted, record_of}
 use Rattle.machine_model.specs.Stepping.Timer.{timed}
 use Rattle.transcript_laws.specs.RecordOrder.{StepsNeverFall}
 use Rattle.transcript_laws.proofs.Ordering.PairLemmas.{pairs_append, pairs_none, pairs_to_map}
-use Rattle.confidentiality_laws.proofs.CauseCaseLemmas.{CauseCase, Kills, Raises, Rests, Steps, case_of, cause_counts}
+use Rattle.machine_laws.proofs.Stepping.CauseCaseLemmas.{CauseCase, Kills, Raises, Rests, Steps, case_of, cause_counts}
 use Rattle.machine_model.specs.Ending.Closing.{closed, senders_held_gone, senders_queued_gone, servers_closed}
 use Rattle.machine_model.specs.Ending.Ends.{forgotten}
 use Rattle.machine_laws.proofs.Threading.ThreadStepLemmas.{turned_to}

@@ -21,7 +21,7 @@ use Rattle.syscall_codec.specs.CallNumbers.{reply_message}
 use Rattle.syscall_codec.specs.CallWords.{send_address, send_id, send_kind, send_length, send_offset, send_valid, send_words}
 use Rattle.xk_base.specs.Calls.Kinds.{is_answered, kind_at, kind_number}
 use Rattle.syscall_codec.specs.ReplyWords.{message_words}
-use Rattle.confidentiality_laws.specs.TwoRuns.{records_by}
+use Rattle.machine_laws.specs.Records.{records_by}
 use Rattle.machine_laws.specs.HistoryMoments.{moments_of}
 use Rattle.machine_laws.proofs.Histories.MomentLemmas.{history_is_run}
 use Rattle.machine_model.specs.Ending.Closing.{senderless_from}

@@ -18,7 +18,7 @@ use Rattle.syscall_codec.specs.ReplyWords.{refused_words, scalar1_words}
 use Rattle.xk_base.specs.Tables.Circle.{listed_ids}
 use Rattle.xk_base.specs.Tables.Counting.{put_at}
 use Rattle.xk_base.proofs.CircleLemmas.{listed_ids-passes}
-use Rattle.confidentiality_laws.specs.TwoRuns.{records_by}
+use Rattle.machine_laws.specs.Records.{records_by}
 use Rattle.machine_model.specs.Calling.Calls.{call}
 use Rattle.machine_model.specs.Ending.Closing.{closed, is_sender_at, senders_held_gone, senders_queued_gone, servers_closed, with_senderless_from, without_queued_from}
 use Rattle.machine_model.specs.Ending.Ends.{death, forgotten, handler_ended, is_joining, joiners_answered, thread_ended, waits_for_end}
@@ -41,8 +41,8 @@ use Rattle.machine_model.proofs.Runs.TimerLemmas.{timed_raised}
 use Rattle.machine_laws.proofs.Stepping.StepKindLemmas.{is_call}
 use Rattle.machine_laws.proofs.Threading.ThreadStepLemmas.{actor_ready, turned_to}
 use Rattle.call_effects.proofs.ServedLemmas.{OfServed}
-use Rattle.confidentiality_laws.proofs.CauseCaseLemmas.{ActCase, CauseCase, EndCase, EndsHandler, EndsThread, Instructs, IsLast, Kills, LeavesOthers, Raises, Rests, StartCase, Starts}
-use Rattle.confidentiality_laws.proofs.CauseCaseLemmas.{StartsNone, Steps, case_of, end_of, start_of}
+use Rattle.machine_laws.proofs.Stepping.CauseCaseLemmas.{ActCase, CauseCase, EndCase, EndsHandler, EndsThread, Instructs, IsLast, Kills, LeavesOthers, Raises, Rests, StartCase, Starts}
+use Rattle.machine_laws.proofs.Stepping.CauseCaseLemmas.{StartsNone, Steps, case_of, end_of, start_of}
 use Rattle.transcript_laws.proofs.Answering.DueLemmas.{timed_holds}
 use Rattle.transcript_laws.specs.Answered.{IsAnswerTo, IsSenderAnswered, IsUnserved, SendersAreAnswered}
 use Rattle.transcript_laws.specs.Following.{keeping}

@@ -41,7 +41,7 @@ use Rattle.call_effects.proofs.FootprintLemmas.{calls_leave_the_rest}
 use Rattle.call_effects.proofs.MeantLemmas.{calls_meant}
 use Rattle.call_effects.proofs.RowLemmas.{OfRows, ◌also◌, of_row}
 use Rattle.call_effects.proofs.ServedLemmas.{OfPlan, OfServed, done, of_plan}
-use Rattle.confidentiality_laws.proofs.CauseCaseLemmas.{step_is}
+use Rattle.machine_laws.proofs.Stepping.CauseCaseLemmas.{step_is}
 use Rattle.transcript_laws.specs.Serving.{IsReceiver, is_receive, told_by}
 use Rattle.transcript_laws.proofs.AtServers.GivenUpLemmas.{of_served, served_turned}
 use Rattle.transcript_laws.proofs.Following.StepLemmas.{numbered}

@@ -29,8 +29,8 @@ use Rattle.machine_laws.proofs.Threading.ThreadStepLemmas.{actor_ready, turned_t
 use Rattle.transcript_laws.specs.Turns.{KeepsOrder}
 use Rattle.transcript_laws.proofs.Turning.GoingLemmas.{acted_goes_on, delivered_stays, step_goes_on}
 use Rattle.transcript_laws.proofs.Turning.RoundLemmas.{far, next_nearer}
-use Rattle.confidentiality_laws.proofs.CauseCaseLemmas.{CauseCase, Kills, Raises, Rests, Steps, case_of}
-use Rattle.confidentiality_laws.specs.TwoRuns.{records_by}
+use Rattle.machine_laws.proofs.Stepping.CauseCaseLemmas.{CauseCase, Kills, Raises, Rests, Steps, case_of}
+use Rattle.machine_laws.specs.Records.{records_by}
 use Rattle.machine_model.specs.Stepping.Step.{acted}
 
 -- two ids are one, or they aren't

@@ -1,6 +1,6 @@
 -- A run that files give is lawful, and every call has its headline.
 use Rattle.std.proofs.Common.{◌≤◌, ℕ, Option, None, Some, IfSome, refl, sym, ap, ◌∙◌, subst}
-use Rattle.confidentiality_laws.proofs.Histories.RecordLemmas.{history_tells}
+use Rattle.machine_laws.proofs.Histories.RecordLemmas.{history_tells}
 use Rattle.demo_load.proofs.LoadImageLemmas.{load_has_no_fault, load_spells}
 use Rattle.demo_load.specs.Events.{load_machine}
 use Rattle.demo_load.specs.Image.{load_args, load_image}

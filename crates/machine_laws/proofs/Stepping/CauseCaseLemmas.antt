@@ -24,7 +24,7 @@ use Rattle.machine_model.proofs.StepLemmas.{no_step}
 use Rattle.machine_laws.proofs.Histories.LimitLemmas.{irq_steps, kill_steps, pick_steps, step_steps, turn_steps}
 use Rattle.machine_laws.proofs.Stepping.StepKindLemmas.{Executes, HandlerEnds, StepKind, ThreadEnds, acted_as_executed, kind_of}
 use Rattle.machine_laws.proofs.Threading.ThreadStepLemmas.{then_acted, turned_to}
-use Rattle.confidentiality_laws.specs.TwoRuns.{records_by}
+use Rattle.machine_laws.specs.Records.{records_by}
 
 -- ---- what a thread does
 
