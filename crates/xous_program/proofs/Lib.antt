@@ -2,4 +2,3 @@ pub mod Headline
 pub mod Images
 pub mod Outcome
 pub mod Output
-pub mod ReserverLemmas

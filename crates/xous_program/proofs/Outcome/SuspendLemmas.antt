@@ -1,5 +1,5 @@
 -- The parts of a call of `suspend`, put together.
-use Rattle.std.proofs.Common.{◌≡◌, ◌<◌, ◌≤◌, ◌+◌, ◌⊎◌, inl, inr, ℕ, Bool, true, false, List, [], ◌∷◌, length, Option, None, Result, Ok, Err, IfErr, IsErrAnd}
+use Rattle.std.proofs.Common.{◌≡◌, ◌<◌, ◌≤◌, ◌+◌, ◌⊎◌, inl, inr, ℕ, Bool, true, false, List, [], ◌∷◌, length, Option, Some, None, Result, Ok, Err, IfErr, IsErrAnd}
 use Rattle.std.proofs.Common.{refl, sym, ap, ◌∙◌, subst, arith}
 use Rattle.boot_plan.specs.Capacity.{capacity, page_frames}
 use Rattle.boot_plan.specs.declared.plans.BootPlan.{BootPlan}
@@ -42,7 +42,7 @@ use Rattle.host_io.specs.Reading.{Asked, IsFile, IsTold}
 use Rattle.event_player.specs.Standing.{Stand, room_in}
 use Rattle.event_player.specs.Telling.{is_silent, told}
 use Rattle.xous_program.specs.Words.{Play, Suspend}
-use Rattle.xous_program.proofs.ReserverLemmas.{history_reserver, unreserved_known}
+use Rattle.machine_laws.proofs.Histories.ReservedLemmas.{history_reserved}
 use Rattle.xous_program.proofs.Outcome.TopLemmas.{Before, IsBefore, asks_both, begun_at, booted_is, cause_earlier, lines_earlier, prepared_earlier, rose_after}
 use Rattle.xous_program.proofs.Outcome.TrustLemmas.{full_on}
 use Rattle.host_io.proofs.ReadingLemmas.{told_file}
@@ -93,12 +93,16 @@ untouched run now nothing none stays = ap (λ (t : Text). t.out) (stays (ap is_s
 
 -- ---- the last state
 
+-- in a state without a reservation, each reservation is that of a thread
+unreserved_known : (m : Machine) → m.reserved ≡ None → IsReservedByThread m
+unreserved_known m none = λ r is. absurd (let d : None ≡ Some r = sym none ∙ is in cc)
+
 -- its reservation is that of a thread of the processes
 pub last_reserver : (limit : ℕ) (events : List ℕ) (old start last : Machine) → old ≡ start → Matched old → old.reserved ≡ None
     → last ≡ (run_of limit start events).machine → IsReservedByThread last
 last_reserver limit events old start last is matched none there =
     let known : IsReservedByThread start = subst IsReservedByThread is (unreserved_known old none) in
-    subst IsReservedByThread (sym there) (history_reserver (input_of events).events limit start (subst Matched is matched) known)
+    subst IsReservedByThread (sym there) (history_reserved (input_of events).events limit start (subst Matched is matched) known)
 
 -- where a page is out at the end of the events, some state of the run had more pages than there are frames for
 pub full_where_out : (play : Play) (room : Room) (start : Machine) (call : Call) (begun : Text) (left : Option (List ℕ)) (now : Stand)
