@@ -4,9 +4,9 @@ pub mod FullLemmas
 pub mod GatheringLemmas
 pub mod HistoryLemmas
 pub mod KeptLemmas
-pub mod NearLemmas
 pub mod OnceLemmas
 pub mod PlayingLemmas
+pub mod PuttingLemmas
 pub mod QuietLemmas
 pub mod RecordLemmas
 pub mod RestLemmas
@@ -14,5 +14,6 @@ pub mod SomeStepsLemmas
 pub mod StandingLemmas
 pub mod StepLemmas
 pub mod StepLimitLemmas
+pub mod StoodLemmas
 pub mod TableLemmas
 pub mod TickLemmas

@@ -4,6 +4,8 @@ use Rattle.xk_ports.specs.Told.{Grows, GrowsByProperPrefix}
 use Rattle.event_player.specs.declared.telling.Telling.{Telling}
 use Rattle.event_player.specs.declared.ending.Ending.{Ending}
 use Rattle.event_player.specs.declared.ending.Ending.TheVariants.{LimitMet}
+use Rattle.event_player.specs.declared.events.PlayFault.{PlayFault}
+use Rattle.event_player.specs.declared.events.PlayFault.TheVariants.{Swap, Write}
 use Rattle.event_player.specs.History.{History}
 use Rattle.event_player.specs.Telling.{is_silent, told}
 
@@ -33,6 +35,13 @@ pub record Gathers (before after : Text) (told : List ℕ) : Type 0 where
 -- .. but the sink failed: of what was held and of these bytes a proper part from the front was put, so that some are left
 abbrev pub GathersPart : Text → Text → List ℕ → Type 0
 GathersPart before after told = GrowsByProperPrefix before.out after.out (before.held ++ told)
+
+-- What was held is put where the store failed; a failed write is a fault of its own. Nothing more is put where a write had failed.
+abbrev pub PutsBefore : Text → Option (List ℕ) → PlayFault → PlayFault → Type 0
+PutsBefore before after Write Write = after ≡ before.out
+PutsBefore before after Write Swap = ⊥
+PutsBefore before after Swap Write = GrowsByProperPrefix before.out after before.held
+PutsBefore before after Swap Swap = Puts before.out after before.held
 
 -- Where nothing is told as records come, and nothing was held, the sink wasn't touched and nothing is held, whatever the store did.
 abbrev pub StaysSilent : Telling → Text → Text → Type 0

@@ -1,7 +1,9 @@
 pub mod Gathering
 pub mod History
 pub mod Playing
+pub mod Reading
 pub mod Rooms
+pub mod Serving
 pub mod Standing
 pub mod Table
 pub mod Telling

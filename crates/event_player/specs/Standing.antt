@@ -2,7 +2,6 @@
 use Rattle.xk_ports.specs.declared.store.SwapStore.{Ghosts as SwapStore}
 use Rattle.std.specs.Prelude.{◌≡◌, ◌⊎◌, Bool, true}
 use Rattle.machine_model.specs.State.Machine.{Machine}
-use Rattle.sv32_space.specs.Tie.{Held}
 use Rattle.vm_memory.specs.Bytes.{none_out}
 use Rattle.vm_memory.specs.Memory.{frames_for_pages, processes}
 use Rattle.xk_kernel.specs.Knowing.{is_trusted}

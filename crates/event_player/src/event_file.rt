@@ -1,20 +1,20 @@
 //! The event file is read in pieces, each event is played as soon as it is known, and what is told
 //! of the events of a piece is put before the next piece is read.
 
-ghost use Rattle.std.specs.Prelude.{◌≡◌, ◌≢◌, ◌≤◌, ◌⊎◌, ◌+◌, ◌++◌, [], ℕ, Bool, false, true, List, Option, None, Some, Ok, Err, length};
-ghost use Rattle.std.specs.Prelude.{IsTrue, OnOk};
-ghost use Rattle.event_text.specs.Held.{IsWaiting};
+ghost use Rattle.std.specs.Prelude.{◌≡◌, ◌≤◌, ◌⊎◌, ◌++◌, ℕ, false, List, IsTrue};
 ghost use Rattle.machine_model.specs.State.Machine.{Machine};
 ghost use Rattle.vm_memory.specs.Memory.{store_of};
-ghost use Rattle.xk_base.specs.declared.limits.TheConstants.{EVENT_FILE_LIMIT, STEP_LIMIT};
+ghost use Rattle.xk_base.specs.declared.limits.TheConstants.{STEP_LIMIT};
 ghost use Rattle.xk_base.specs.Outside.{Rose};
 ghost use Rattle.xk_kernel.specs.Sound.{IsSound, IsUsable, Keeps};
 ghost use Rattle.xk_kernel.specs.State.{machine_of};
-ghost use Rattle.xk_ports.specs.declared.host.FileSlot.TheVariants.{First, Second};
-ghost use Rattle.event_player.specs.Gathering.{Text, put, text};
-ghost use Rattle.event_player.specs.Playing.{FailsSo, Goes, HasPlayed, IsNearAtEnd, Run, Runs, run_from};
-ghost use Rattle.host_io.specs.Reading.{IsTold};
-ghost use Rattle.event_player.specs.Standing.{Begins, Stand, stand};
+ghost use Rattle.xk_kernel.specs.declared.kernel.Kernel.{Kernel};
+ghost use Rattle.xk_ports.specs.declared.host.FileSlot.TheVariants.{Second};
+ghost use Rattle.event_player.specs.Gathering.{PutsBefore, Text, put, text};
+ghost use Rattle.event_player.specs.Playing.{Goes, HasPlayed, Runs, run_from};
+ghost use Rattle.event_player.specs.Reading.{AnswersAll, AnswersPiece, WaitsForBytes};
+ghost use Rattle.event_player.specs.Serving.{ReadsFile, Serves, of_events, of_file};
+ghost use Rattle.event_player.specs.Standing.{Begins, stand};
 
 use crate::ending::Ending;
 use crate::events::{PlayFault, play_known};
@@ -53,23 +53,13 @@ fn feed_piece<K: Sink, W: SwapStore>(
     requires usable { IsUsable kernel.old }
     requires limit { limit ≤ STEP_LIMIT }
     requires within { (machine_of W.held kernel.old).steps ≤ limit }
-    requires waits { IsWaiting reader.old }
-    requires inside { reader.old.start + length reader.old.held ≤ EVENT_FILE_LIMIT }
+    requires waits { WaitsForBytes reader.old }
     ensures goes { let old = stand W.SwapStore kernel.old (text (K.written out.old) held.old.items) in
         let new = stand W.SwapStore kernel.new (text (K.written out.new) held.new.items) in
-        (start : Machine) (begun : Text) (taken : List ℕ) → let run = run_from tells limit start begun in
-        HasPlayed run taken reader.old old → Goes run (taken ++ piece.now) false reader.new new result }
-    ensures sound { IsSound W.SwapStore kernel.new }
-    ensures usable { OnOk result (IsUsable kernel.new) }
-    ensures keeps { Keeps W.SwapStore kernel.old kernel.new }
-    ensures within { OnOk result ((machine_of W.held kernel.new).steps ≤ limit) }
-    ensures waits { result ≡ Ok None → IsWaiting reader.new × (reader.new.start + length reader.new.held ≤ EVENT_FILE_LIMIT) }
-    ensures unended { result ≢ Ok (Some Ending.Played) }
-    ensures offset { result ≡ Ok None →
-        reader.new.start + length reader.new.held ≡ reader.old.start + length reader.old.held + length piece.now }
-    ensures write { result ≡ Err PlayFault.Write → Rose (K.faults out.old) (K.faults out.new) }
-    ensures swap { result ≡ Err PlayFault.Swap → Rose (W.faults (store_of kernel.old.mem)) (W.faults (store_of kernel.new.mem)) }
-    ensures never_falls { K.faults out.old ≤ K.faults out.new }
+        (first : Kernel W) (start : Machine) (begun : Text) (taken : List ℕ) → let run = run_from W.SwapStore first tells limit start begun in
+        Keeps W.SwapStore first kernel.old → HasPlayed run taken reader.old old → Goes run (taken ++ piece.now) false reader.new new result }
+    ensures answers { AnswersPiece reader.old reader.new piece.now result }
+    ensures serves { Serves W.SwapStore K.Sink of_events limit kernel.old kernel.new out.old out.new result }
 {
     let mut rest = piece;
     'rest: while !rest.is_empty() {
@@ -86,8 +76,7 @@ fn feed_piece<K: Sink, W: SwapStore>(
 /// Puts what is held where the store failed: what is told of the steps before. Where a write failed
 /// nothing more is put.
 fn put_before<K: Sink>(fault: PlayFault, out: &mut K, held: &mut Held) -> PlayFault
-    ensures fails { (run : Run) (taken : List ℕ) (finished : Bool) (now : Stand) → now.text ≡ text (K.written out.old) held.old.items
-        → FailsSo run taken finished now fault → FailsSo run taken finished (record now { text = put (K.written out.new) }) result }
+    ensures puts { PutsBefore (text (K.written out.old) held.old.items) (K.written out.new) fault result }
     ensures write { result ≡ PlayFault.Write → (fault ≡ PlayFault.Write) ⊎ Rose (K.faults out.old) (K.faults out.new) }
     ensures swap { result ≡ PlayFault.Swap → fault ≡ PlayFault.Swap }
     ensures never_falls { K.faults out.old ≤ K.faults out.new }
@@ -115,23 +104,13 @@ fn play_piece<K: Sink, W: SwapStore>(
     requires usable { IsUsable kernel.old }
     requires limit { limit ≤ STEP_LIMIT }
     requires within { (machine_of W.held kernel.old).steps ≤ limit }
-    requires waits { IsWaiting reader.old }
-    requires inside { reader.old.start + length reader.old.held ≤ EVENT_FILE_LIMIT }
+    requires waits { WaitsForBytes reader.old }
     ensures goes { let old = stand W.SwapStore kernel.old (put (K.written out.old)) in
         let new = stand W.SwapStore kernel.new (put (K.written out.new)) in
-        (start : Machine) (begun : Text) (taken : List ℕ) → let run = run_from tells limit start begun in
-        HasPlayed run taken reader.old old → Goes run (taken ++ piece.now) false reader.new new result }
-    ensures sound { IsSound W.SwapStore kernel.new }
-    ensures usable { OnOk result (IsUsable kernel.new) }
-    ensures keeps { Keeps W.SwapStore kernel.old kernel.new }
-    ensures within { OnOk result ((machine_of W.held kernel.new).steps ≤ limit) }
-    ensures waits { result ≡ Ok None → IsWaiting reader.new × (reader.new.start + length reader.new.held ≤ EVENT_FILE_LIMIT) }
-    ensures unended { result ≢ Ok (Some Ending.Played) }
-    ensures offset { result ≡ Ok None →
-        reader.new.start + length reader.new.held ≡ reader.old.start + length reader.old.held + length piece.now }
-    ensures write { result ≡ Err PlayFault.Write → Rose (K.faults out.old) (K.faults out.new) }
-    ensures swap { result ≡ Err PlayFault.Swap → Rose (W.faults (store_of kernel.old.mem)) (W.faults (store_of kernel.new.mem)) }
-    ensures never_falls { K.faults out.old ≤ K.faults out.new }
+        (first : Kernel W) (start : Machine) (begun : Text) (taken : List ℕ) → let run = run_from W.SwapStore first tells limit start begun in
+        Keeps W.SwapStore first kernel.old → HasPlayed run taken reader.old old → Goes run (taken ++ piece.now) false reader.new new result }
+    ensures answers { AnswersPiece reader.old reader.new piece.now result }
+    ensures serves { Serves W.SwapStore K.Sink of_events limit kernel.old kernel.new out.old out.new result }
 {
     let mut held = ArrayVec::new();
     match feed_piece(kernel, reader, piece, tells, limit, out, &mut held) {
@@ -158,23 +137,10 @@ fn play_end<K: Sink, W: SwapStore>(
     requires within { (machine_of W.held kernel.old).steps ≤ limit }
     ensures goes { let old = stand W.SwapStore kernel.old (put (K.written out.old)) in
         let new = stand W.SwapStore kernel.new (put (K.written out.new)) in
-        (start : Machine) (begun : Text) (taken : List ℕ) → let run = run_from tells limit start begun in
-        HasPlayed run taken reader.old old → Goes run taken reader.old.finished reader.new new result }
-    ensures near { let old = stand W.SwapStore kernel.old (put (K.written out.old)) in
-        let new = stand W.SwapStore kernel.new (put (K.written out.new)) in
-        (start : Machine) (begun : Text) (taken : List ℕ) → let run = run_from tells limit start begun in
-        result ≡ Ok (Some Ending.Played) → HasPlayed run taken reader.old old → IsNearAtEnd run taken reader.old.finished new }
-    ensures sound { IsSound W.SwapStore kernel.new }
-    ensures usable { OnOk result (IsUsable kernel.new) }
-    ensures keeps { Keeps W.SwapStore kernel.old kernel.new }
-    ensures within { OnOk result ((machine_of W.held kernel.new).steps ≤ limit) }
-    ensures waits { result ≡ Ok None → IsWaiting reader.new × (reader.new.start + length reader.new.held ≤ EVENT_FILE_LIMIT) }
-    ensures offset { reader.new.start + length reader.new.held ≡ reader.old.start + length reader.old.held }
-    ensures finished { reader.new.finished ≡ reader.old.finished }
-    ensures end { result ≡ Ok (Some Ending.Played) → reader.new.finished ≡ true }
-    ensures write { result ≡ Err PlayFault.Write → Rose (K.faults out.old) (K.faults out.new) }
-    ensures swap { result ≡ Err PlayFault.Swap → Rose (W.faults (store_of kernel.old.mem)) (W.faults (store_of kernel.new.mem)) }
-    ensures never_falls { K.faults out.old ≤ K.faults out.new }
+        (first : Kernel W) (start : Machine) (begun : Text) (taken : List ℕ) → let run = run_from W.SwapStore first tells limit start begun in
+        Keeps W.SwapStore first kernel.old → HasPlayed run taken reader.old old → Goes run taken reader.old.finished reader.new new result }
+    ensures answers { AnswersAll reader.old reader.new result }
+    ensures serves { Serves W.SwapStore K.Sink of_events limit kernel.old kernel.new out.old out.new result }
 {
     let mut held = ArrayVec::new();
     match play_known(kernel, reader, tells, limit, out, &mut held) {
@@ -203,19 +169,9 @@ pub fn play_file<H: Host, K: Sink, W: SwapStore>(
     ensures runs { let old = stand W.SwapStore kernel.old (put (K.written out.old)) in
         let new = stand W.SwapStore kernel.new (put (K.written out.new)) in
         (start : Machine) → Begins start old
-        → Runs (run_from tells limit start (put (K.written out.old))) (H.left host.old Second) (H.left host.new Second) new result }
-    ensures sound { IsSound W.SwapStore kernel.new }
-    ensures usable { OnOk result (IsUsable kernel.new) }
-    ensures keeps { Keeps W.SwapStore kernel.old kernel.new }
-    ensures within { OnOk result ((machine_of W.held kernel.new).steps ≤ limit) }
-    ensures end { result ≡ Ok Ending.Played → IsTold (H.left host.new Second) [] }
-    ensures read { result ≡ Err RunFault.Read → Rose (H.faults host.old) (H.faults host.new) }
-    ensures write { result ≡ Err RunFault.Write → Rose (K.faults out.old) (K.faults out.new) }
-    ensures swap { result ≡ Err RunFault.Swap → Rose (W.faults (store_of kernel.old.mem)) (W.faults (store_of kernel.new.mem)) }
-    ensures asked { H.asked host.new ≡ H.asked host.old }
-    ensures first { H.left host.new First ≡ H.left host.old First }
-    ensures host { H.faults host.old ≤ H.faults host.new }
-    ensures out { K.faults out.old ≤ K.faults out.new }
+        → Runs (run_from W.SwapStore kernel.old tells limit start (put (K.written out.old))) (H.left host.old Second) (H.left host.new Second) new result }
+    ensures serves { Serves W.SwapStore K.Sink of_file limit kernel.old kernel.new out.old out.new result }
+    ensures reads { ReadsFile H.Host host.old host.new result }
 {
     let mut reader = EventReader::new();
     let mut piece = [0u8; PIECE];

@@ -1,17 +1,19 @@
 //! Events are played, and what a command tells of their records is gathered as they come.
 
-ghost use Rattle.std.specs.Prelude.{◌≡◌, ◌≤◌, ◌<◌, ◌+◌, ℕ, true, List, Option, None, Some, Ok, Err, length, IfOk, OnOk, OnErr};
-ghost use Rattle.event_text.specs.Held.{IsWaiting};
+ghost use Rattle.std.specs.Prelude.{◌≡◌, ◌≤◌, ◌<◌, ℕ, true, List, IfOk, OnOk, OnErr};
 ghost use Rattle.machine_model.specs.State.Machine.{Machine};
 ghost use Rattle.vm_memory.specs.Bytes.{none_out};
-ghost use Rattle.vm_memory.specs.Memory.{store_of};
-ghost use Rattle.xk_base.specs.declared.limits.TheConstants.{EVENT_FILE_LIMIT, STEP_LIMIT};
+ghost use Rattle.xk_base.specs.declared.limits.TheConstants.{STEP_LIMIT};
 ghost use Rattle.xk_base.specs.Outside.{Rose};
+ghost use Rattle.xk_kernel.specs.Moments.{Stood};
 ghost use Rattle.xk_kernel.specs.Sound.{IsSound, IsUsable, Keeps};
 ghost use Rattle.xk_kernel.specs.State.{machine_of};
+ghost use Rattle.xk_kernel.specs.declared.kernel.Kernel.{Kernel};
 ghost use Rattle.xk_kernel.specs.Stepping.{event_done};
 ghost use Rattle.event_player.specs.Gathering.{Gathers, GathersPart, Text, text};
-ghost use Rattle.event_player.specs.Playing.{Advances, Goes, HasPlayed, IsNearAtEnd, Plays, PlaysOn, run_from};
+ghost use Rattle.event_player.specs.Playing.{Advances, Goes, HasPlayed, Plays, PlaysOn, run_from};
+ghost use Rattle.event_player.specs.Reading.{Answers, AnswersAll};
+ghost use Rattle.event_player.specs.Serving.{Serves, of_events};
 ghost use Rattle.event_player.specs.Standing.{stand};
 ghost use Rattle.event_player.specs.Telling.{told};
 
@@ -50,15 +52,9 @@ fn play_step<K: Sink, W: SwapStore>(
     requires some { 0 < left }
     ensures on { let old = stand W.SwapStore kernel.old (text (K.written out.old) held.old.items) in
         let new = stand W.SwapStore kernel.new (text (K.written out.new) held.new.items) in
-        PlaysOn tells left limit old new result }
+        PlaysOn (Stood W.SwapStore kernel.old) (Stood W.SwapStore kernel.new) tells left limit old new result }
     ensures fewer { IfOk result (λ rest. rest < left) }
-    ensures sound { IsSound W.SwapStore kernel.new }
-    ensures usable { OnOk result (IsUsable kernel.new) }
-    ensures keeps { Keeps W.SwapStore kernel.old kernel.new }
-    ensures within { OnOk result ((machine_of W.held kernel.new).steps ≤ limit) }
-    ensures write { result ≡ Err PlayFault.Write → Rose (K.faults out.old) (K.faults out.new) }
-    ensures swap { result ≡ Err PlayFault.Swap → Rose (W.faults (store_of kernel.old.mem)) (W.faults (store_of kernel.new.mem)) }
-    ensures never_falls { K.faults out.old ≤ K.faults out.new }
+    ensures serves { Serves W.SwapStore K.Sink of_events limit kernel.old kernel.new out.old out.new result }
 {
     match kernel.step() {
         Ok(Stepped::Did) => {}
@@ -88,15 +84,9 @@ fn play_run<K: Sink, W: SwapStore>(
     requires some { 0 < left }
     ensures on { let old = stand W.SwapStore kernel.old (text (K.written out.old) held.old.items) in
         let new = stand W.SwapStore kernel.new (text (K.written out.new) held.new.items) in
-        PlaysOn tells left limit old new result }
+        PlaysOn (Stood W.SwapStore kernel.old) (Stood W.SwapStore kernel.new) tells left limit old new result }
     ensures fewer { IfOk result (λ rest. rest < left) }
-    ensures sound { IsSound W.SwapStore kernel.new }
-    ensures usable { OnOk result (IsUsable kernel.new) }
-    ensures keeps { Keeps W.SwapStore kernel.old kernel.new }
-    ensures within { OnOk result ((machine_of W.held kernel.new).steps ≤ limit) }
-    ensures write { result ≡ Err PlayFault.Write → Rose (K.faults out.old) (K.faults out.new) }
-    ensures swap { result ≡ Err PlayFault.Swap → Rose (W.faults (store_of kernel.old.mem)) (W.faults (store_of kernel.new.mem)) }
-    ensures never_falls { K.faults out.old ≤ K.faults out.new }
+    ensures serves { Serves W.SwapStore K.Sink of_events limit kernel.old kernel.new out.old out.new result }
 {
     let most = left.min(limit - kernel.steps());
     let Ok(done) = kernel.run_quiet(most) else {
@@ -124,14 +114,8 @@ fn play_tick<K: Sink, W: SwapStore>(
     requires within { (machine_of W.held kernel.old).steps ≤ limit }
     ensures plays { let old = stand W.SwapStore kernel.old (text (K.written out.old) held.old.items) in
         let new = stand W.SwapStore kernel.new (text (K.written out.new) held.new.items) in
-        Plays tells (Event.Tick count) limit old new result }
-    ensures sound { IsSound W.SwapStore kernel.new }
-    ensures usable { OnOk result (IsUsable kernel.new) }
-    ensures keeps { Keeps W.SwapStore kernel.old kernel.new }
-    ensures within { OnOk result ((machine_of W.held kernel.new).steps ≤ limit) }
-    ensures write { result ≡ Err PlayFault.Write → Rose (K.faults out.old) (K.faults out.new) }
-    ensures swap { result ≡ Err PlayFault.Swap → Rose (W.faults (store_of kernel.old.mem)) (W.faults (store_of kernel.new.mem)) }
-    ensures never_falls { K.faults out.old ≤ K.faults out.new }
+        Plays (Stood W.SwapStore kernel.old) tells (Event.Tick count) limit old new result }
+    ensures serves { Serves W.SwapStore K.Sink of_events limit kernel.old kernel.new out.old out.new result }
 {
     let mut left = count;
     'runs: while left > 0 {
@@ -191,14 +175,8 @@ fn play_event<K: Sink, W: SwapStore>(
     requires within { (machine_of W.held kernel.old).steps ≤ limit }
     ensures plays { let old = stand W.SwapStore kernel.old (text (K.written out.old) held.old.items) in
         let new = stand W.SwapStore kernel.new (text (K.written out.new) held.new.items) in
-        Plays tells event limit old new result }
-    ensures sound { IsSound W.SwapStore kernel.new }
-    ensures usable { OnOk result (IsUsable kernel.new) }
-    ensures keeps { Keeps W.SwapStore kernel.old kernel.new }
-    ensures within { OnOk result ((machine_of W.held kernel.new).steps ≤ limit) }
-    ensures write { result ≡ Err PlayFault.Write → Rose (K.faults out.old) (K.faults out.new) }
-    ensures swap { result ≡ Err PlayFault.Swap → Rose (W.faults (store_of kernel.old.mem)) (W.faults (store_of kernel.new.mem)) }
-    ensures never_falls { K.faults out.old ≤ K.faults out.new }
+        Plays (Stood W.SwapStore kernel.old) tells event limit old new result }
+    ensures serves { Serves W.SwapStore K.Sink of_events limit kernel.old kernel.new out.old out.new result }
 {
     match event {
         Event::Tick(count) => play_tick(kernel, count, tells, limit, out, held),
@@ -237,27 +215,10 @@ fn play_next<K: Sink, W: SwapStore>(
     requires within { (machine_of W.held kernel.old).steps ≤ limit }
     ensures advances { let old = stand W.SwapStore kernel.old (text (K.written out.old) held.old.items) in
         let new = stand W.SwapStore kernel.new (text (K.written out.new) held.new.items) in
-        (start : Machine) (begun : Text) (taken : List ℕ) → let run = run_from tells limit start begun in
-        HasPlayed run taken reader.old old → Advances run taken reader.old.finished reader.new new result }
-    ensures near { let old = stand W.SwapStore kernel.old (text (K.written out.old) held.old.items) in
-        let new = stand W.SwapStore kernel.new (text (K.written out.new) held.new.items) in
-        (start : Machine) (begun : Text) (taken : List ℕ) → let run = run_from tells limit start begun in
-        result ≡ Ok (Advance.Ended Ending.Played) → HasPlayed run taken reader.old old → IsNearAtEnd run taken reader.old.finished new }
-    ensures sound { IsSound W.SwapStore kernel.new }
-    ensures usable { OnOk result (IsUsable kernel.new) }
-    ensures keeps { Keeps W.SwapStore kernel.old kernel.new }
-    ensures within { OnOk result ((machine_of W.held kernel.new).steps ≤ limit) }
-
-    // Each event takes bytes that are held, and none are read.
-    ensures fewer { result ≡ Ok Advance.Played → length reader.new.held < length reader.old.held }
-    ensures waits { result ≡ Ok Advance.Waits → IsWaiting reader.new × (reader.new.start + length reader.new.held ≤ EVENT_FILE_LIMIT) }
-    ensures offset { reader.new.start + length reader.new.held ≡ reader.old.start + length reader.old.held }
-    ensures finished { reader.new.finished ≡ reader.old.finished }
-    ensures end { result ≡ Ok (Advance.Ended Ending.Played) → reader.new.finished ≡ true }
-
-    ensures write { result ≡ Err PlayFault.Write → Rose (K.faults out.old) (K.faults out.new) }
-    ensures swap { result ≡ Err PlayFault.Swap → Rose (W.faults (store_of kernel.old.mem)) (W.faults (store_of kernel.new.mem)) }
-    ensures never_falls { K.faults out.old ≤ K.faults out.new }
+        (first : Kernel W) (start : Machine) (begun : Text) (taken : List ℕ) → let run = run_from W.SwapStore first tells limit start begun in
+        Keeps W.SwapStore first kernel.old → HasPlayed run taken reader.old old → Advances run taken reader.old.finished reader.new new result }
+    ensures answers { Answers reader.old reader.new result }
+    ensures serves { Serves W.SwapStore K.Sink of_events limit kernel.old kernel.new out.old out.new result }
 {
     match reader.next() {
         NextEvent::Event(event) => match play_event(kernel, event, tells, limit, out, held)? {
@@ -286,23 +247,10 @@ pub fn play_known<K: Sink, W: SwapStore>(
     requires within { (machine_of W.held kernel.old).steps ≤ limit }
     ensures goes { let old = stand W.SwapStore kernel.old (text (K.written out.old) held.old.items) in
         let new = stand W.SwapStore kernel.new (text (K.written out.new) held.new.items) in
-        (start : Machine) (begun : Text) (taken : List ℕ) → let run = run_from tells limit start begun in
-        HasPlayed run taken reader.old old → Goes run taken reader.old.finished reader.new new result }
-    ensures near { let old = stand W.SwapStore kernel.old (text (K.written out.old) held.old.items) in
-        let new = stand W.SwapStore kernel.new (text (K.written out.new) held.new.items) in
-        (start : Machine) (begun : Text) (taken : List ℕ) → let run = run_from tells limit start begun in
-        result ≡ Ok (Some Ending.Played) → HasPlayed run taken reader.old old → IsNearAtEnd run taken reader.old.finished new }
-    ensures sound { IsSound W.SwapStore kernel.new }
-    ensures usable { OnOk result (IsUsable kernel.new) }
-    ensures keeps { Keeps W.SwapStore kernel.old kernel.new }
-    ensures within { OnOk result ((machine_of W.held kernel.new).steps ≤ limit) }
-    ensures waits { result ≡ Ok None → IsWaiting reader.new × (reader.new.start + length reader.new.held ≤ EVENT_FILE_LIMIT) }
-    ensures offset { reader.new.start + length reader.new.held ≡ reader.old.start + length reader.old.held }
-    ensures finished { reader.new.finished ≡ reader.old.finished }
-    ensures end { result ≡ Ok (Some Ending.Played) → reader.new.finished ≡ true }
-    ensures write { result ≡ Err PlayFault.Write → Rose (K.faults out.old) (K.faults out.new) }
-    ensures swap { result ≡ Err PlayFault.Swap → Rose (W.faults (store_of kernel.old.mem)) (W.faults (store_of kernel.new.mem)) }
-    ensures never_falls { K.faults out.old ≤ K.faults out.new }
+        (first : Kernel W) (start : Machine) (begun : Text) (taken : List ℕ) → let run = run_from W.SwapStore first tells limit start begun in
+        Keeps W.SwapStore first kernel.old → HasPlayed run taken reader.old old → Goes run taken reader.old.finished reader.new new result }
+    ensures answers { AnswersAll reader.old reader.new result }
+    ensures serves { Serves W.SwapStore K.Sink of_events limit kernel.old kernel.new out.old out.new result }
 {
     'answers: loop {
         match play_next(kernel, reader, tells, limit, out, held)? {

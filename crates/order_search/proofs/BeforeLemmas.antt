@@ -15,7 +15,9 @@ use Rattle.xk_base.specs.declared.limits.TheConstants.{STEP_LIMIT}
 use Rattle.xk_base.specs.declared.records.Rec.{Rec}
 use Rattle.xk_base.specs.declared.records.What.{What}
 use Rattle.xk_base.specs.declared.records.What.TheVariants.{Byte, Call, End, Fault, Gone, Irq, Reply, Retry}
+use Rattle.xk_kernel.specs.declared.kernel.Kernel.{Kernel}
 use Rattle.xk_ports.specs.Told.{Grows}
+use Rattle.xk_ports.specs.declared.store.SwapStore.{Ghosts as SwapStore}
 
 same_byte : (what : What) → console_byte what ≡ byte_of_what what
 same_byte (Byte thread byte) = refl
@@ -33,17 +35,17 @@ told_bytes [] = refl
 told_bytes (rec ∷ records) = λ i. same_byte rec.what i ++ told_bytes records i
 
 -- a file that was played ended so
-pub ended_before : (m : Machine) (left : Option (List ℕ)) (events : List ℕ) (begun : Option (List ℕ)) (now : Stand) (ending : Ending)
-    → left ≡ Some events → now.trusted ≡ true → PlaysOut (run_from Run STEP_LIMIT m (put begun)) left now ending
+pub ended_before : {W : Type 0} {S : SwapStore W} {first : Kernel W} (m : Machine) (left : Option (List ℕ)) (events : List ℕ) (begun : Option (List ℕ)) (now : Stand) (ending : Ending)
+    → left ≡ Some events → now.trusted ≡ true → PlaysOut (run_from S first Run STEP_LIMIT m (put begun)) left now ending
     → (run_of STEP_LIMIT m events).ending ≡ ending
 ended_before m left events begun now ending told trusted runs =
     let same : events ≡ runs.bytes = subst (λ (l : Option (List ℕ)). IsTold l runs.bytes) told runs.file in
     ap (λ (e : List ℕ). (run_of STEP_LIMIT m e).ending) same ∙ (runs.exact (inl trusted)).0.ended
 
 -- what is written of a file that was played, on a console on which nothing stood
-pub played_before : (m : Machine) (left : Option (List ℕ)) (events begun console : List ℕ) (now : Stand) (ending : Ending) → left ≡ Some events
+pub played_before : {W : Type 0} {S : SwapStore W} {first : Kernel W} (m : Machine) (left : Option (List ℕ)) (events begun console : List ℕ) (now : Stand) (ending : Ending) → left ≡ Some events
     → begun ≡ [] → now.trusted ≡ true → now.text ≡ put (Some console)
-    → PlaysOut (run_from Run STEP_LIMIT m (put (Some begun))) left now ending
+    → PlaysOut (run_from S first Run STEP_LIMIT m (put (Some begun))) left now ending
     → (now.machine ≡ (run_of STEP_LIMIT m events).machine) × (console ≡ bytes_of (run_of STEP_LIMIT m events).records)
 played_before m left events begun console now ending told none trusted text runs =
     let same : events ≡ runs.bytes = subst (λ (l : Option (List ℕ)). IsTold l runs.bytes) told runs.file in

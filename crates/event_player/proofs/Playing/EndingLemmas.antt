@@ -1,7 +1,8 @@
 -- How a run over a file ends, by what was played so far and the next answer of the reader.
 use Rattle.std.proofs.Common.{◌≡◌, ◌≢◌, ◌≤◌, ◌⊎◌, ◌+◌, inl, inr, ℕ, arith, take, drop, length, length-append, length-take, Bool, true, false, List, [], ◌∷◌, ◌++◌, Option, Some, None, Result, Ok, Err, IsErrAnd, refl, sym, ap, ◌∙◌, subst, append_assoc, append-nil}
 use Rattle.std.proofs.lemmas.List.{take-append-drop}
-use Rattle.xk_ports.specs.Told.{GrowsByProperPrefix}
+use Rattle.xk_kernel.specs.Moments.{Stood, Throughout}
+use Rattle.xk_ports.specs.declared.store.SwapStore.{Ghosts as SwapStore}
 use Rattle.event_player.specs.Telling.{told}
 use Rattle.machine_model.specs.Runs.Moments.{Moment}
 use Rattle.machine_model.specs.State.Machine.{Machine}
@@ -24,23 +25,22 @@ use Rattle.machine_laws.specs.History.{history, play}
 use Rattle.machine_laws.specs.HistoryMoments.{event_moments, moments_of}
 use Rattle.event_player.specs.History.{History, MayEnd, with_ending, history_of, end_of}
 use Rattle.event_player.specs.Rooms.{ComesFull}
-use Rattle.event_player.specs.Playing.{Advances, Comes, EndsAtNoLine, EndsSo, FailsSo, Follows, ForEach, GathersSoon, Goes, HasPlayed, IsKnown, Plays, Reaches, Run, StaysNear}
+use Rattle.event_player.specs.Playing.{Advances, Comes, EndsAtNoLine, EndsSo, FailsSo, Follows, ForEach, GathersSoon, Goes, HasPlayed, IsKnown, IsNearAtEnd, Plays, Reaches, Run, StaysNear, StoodOver}
 use Rattle.event_player.specs.Standing.{Stand}
-use Rattle.event_player.specs.Gathering.{Gathered, GatheredPart, Gathers, GathersPart, Puts, Text, put, text}
+use Rattle.event_player.specs.Gathering.{Gathered, GatheredPart, Gathers, Text, put}
 use Rattle.event_player.specs.Writing.{Wrote}
 use Rattle.machine_laws.proofs.Histories.HistoryLemmas.{history_first, history_none}
 use Rattle.event_player.proofs.Playing.FullLemmas.{events_full_front, events_full_later, first_event_full}
-use Rattle.event_player.proofs.Playing.GatheringLemmas.{all_put, gathers_put, gathers_unput, part_longer, silent_after, silent_put}
-use Rattle.host_io.proofs.ToldLemmas.{front_longer}
+use Rattle.event_player.proofs.Playing.GatheringLemmas.{all_put, silent_after}
 use Rattle.event_player.proofs.Playing.HistoryLemmas.{behind, gathered_behind, gathered_nothing, gathered_same, history_after, history_stops, met_ends, met_steps, other_met, part_behind, part_followed, part_same, unmet_ends}
-use Rattle.event_player.proofs.Playing.SomeStepsLemmas.{some_first}
 use Rattle.event_player.proofs.Playing.StepLimitLemmas.{history_same, moments_same, play_grows}
 use Rattle.event_player.proofs.Playing.PlayingLemmas.{event_full, events_one, same_room}
+use Rattle.event_player.proofs.Playing.StoodLemmas.{through_events, through_last}
 
 -- ---- the rest
 
 -- the input of a file is what was answered, and behind it what the reader has left
-pub left_is : (run : Run) (now : Stand) (taken : List ℕ) (r : Reader) (more : List ℕ) → (r.finished ≡ true → more ≡ []) → (p : HasPlayed run taken r now)
+pub left_is : {W : Type 0} {S : SwapStore W} (run : Run S) (now : Stand) (taken : List ℕ) (r : Reader) (more : List ℕ) → (r.finished ≡ true → more ≡ []) → (p : HasPlayed run taken r now)
     → with_events (play_of p.calls).answered (left_of r more) ≡ input_of (taken ++ more)
 left_is run now taken r more may p =
     let follows : MayFollow (play_of p.calls) more = λ f. may (sym (ap (λ (x : Reader). x.finished) p.is_reader) ∙ f) in
@@ -49,7 +49,7 @@ left_is run now taken r more may p =
     ∙ ap (λ (l : List ℕ). input_of (l ++ more)) p.took)
 
 -- the history of a file, up to a limit that what was played doesn't pass, is that of what was played, and behind it that of the rest
-whole_at : (run : Run) (now : Stand) (taken : List ℕ) (r : Reader) (more : List ℕ) (limit : ℕ) → (r.finished ≡ true → more ≡ [])
+whole_at : {W : Type 0} {S : SwapStore W} (run : Run S) (now : Stand) (taken : List ℕ) (r : Reader) (more : List ℕ) (limit : ℕ) → (r.finished ≡ true → more ≡ [])
     → (p : HasPlayed run taken r now) → Follows run (play_of p.calls).answered now → now.machine.steps ≤ limit
     → history_of (input_of (taken ++ more)) limit run.start
     ≡ behind (history (play_of p.calls).answered run.limit run.start).records (history_of (left_of r more) limit now.machine)
@@ -64,7 +64,7 @@ whole_at run now taken r more limit may p follows within =
     ∙ ap (λ (x : Machine). behind A.records (history_of (left_of r more) limit x)) follows.there))
 
 -- so it is up to the limit of the run
-whole_is : (run : Run) (now : Stand) (taken : List ℕ) (r : Reader) (more : List ℕ) → (r.finished ≡ true → more ≡ [])
+whole_is : {W : Type 0} {S : SwapStore W} (run : Run S) (now : Stand) (taken : List ℕ) (r : Reader) (more : List ℕ) → (r.finished ≡ true → more ≡ [])
     → (p : HasPlayed run taken r now) → Follows run (play_of p.calls).answered now
     → history_of (input_of (taken ++ more)) run.limit run.start
     ≡ behind (history (play_of p.calls).answered run.limit run.start).records (history_of (left_of r more) run.limit now.machine)
@@ -74,7 +74,7 @@ whole_is run now taken r more may p follows =
     ∙ ap (λ (x : Machine). behind (history (play_of p.calls).answered run.limit run.start).records (history_of (left_of r more) run.limit x)) follows.there)
 
 -- whatever is written for the rest completes the whole
-completes : (run : Run) (now : Stand) (out : Text) (taken : List ℕ) (r : Reader) (more : List ℕ) (ending : Ending) → (r.finished ≡ true → more ≡ [])
+completes : {W : Type 0} {S : SwapStore W} (run : Run S) (now : Stand) (out : Text) (taken : List ℕ) (r : Reader) (more : List ℕ) (ending : Ending) → (r.finished ≡ true → more ≡ [])
     → (p : HasPlayed run taken r now) → Follows run (play_of p.calls).answered now → (h : History) → history_of (left_of r more) run.limit now.machine ≡ h
     → Gathered run.tells now.text out h ending
     → Gathered run.tells run.begun out (history_of (input_of (taken ++ more)) run.limit run.start) ending
@@ -84,7 +84,7 @@ completes run now out taken r more ending may p follows h is wrote =
     (whole_is run now taken r more may p follows ∙ ap (behind A.records) is)
     (gathered_behind run.tells run.begun now.text out A.records h ending follows.gathered wrote)
 
-part_completes : (run : Run) (now : Stand) (out : Text) (taken : List ℕ) (r : Reader) (more : List ℕ) → (r.finished ≡ true → more ≡ [])
+pub part_completes : {W : Type 0} {S : SwapStore W} (run : Run S) (now : Stand) (out : Text) (taken : List ℕ) (r : Reader) (more : List ℕ) → (r.finished ≡ true → more ≡ [])
     → (p : HasPlayed run taken r now) → Follows run (play_of p.calls).answered now → (h : History) → history_of (left_of r more) run.limit now.machine ≡ h
     → GatheredPart run.tells now.text out h
     → GatheredPart run.tells run.begun out (history_of (input_of (taken ++ more)) run.limit run.start)
@@ -94,7 +94,7 @@ part_completes run now out taken r more may p follows h is part =
     (whole_is run now taken r more may p follows ∙ ap (behind A.records) is)
     (part_behind run.tells run.begun now.text out A.records h follows.gathered part)
 
-ends_on : (run : Run) (now : Stand) (taken : List ℕ) (r : Reader) (more : List ℕ) → (r.finished ≡ true → more ≡ [])
+ends_on : {W : Type 0} {S : SwapStore W} (run : Run S) (now : Stand) (taken : List ℕ) (r : Reader) (more : List ℕ) → (r.finished ≡ true → more ≡ [])
     → (p : HasPlayed run taken r now) → Follows run (play_of p.calls).answered now → (h : History) → history_of (left_of r more) run.limit now.machine ≡ h
     → h.machine ≡ (history_of (input_of (taken ++ more)) run.limit run.start).machine
 ends_on run now taken r more may p follows h is =
@@ -103,12 +103,12 @@ ends_on run now taken r more may p follows h is =
 -- ---- where what the pages hold is known
 
 -- these are the events of the file
-events_of : (run : Run) (now : Stand) (taken : List ℕ) (r : Reader) (more : List ℕ) → (r.finished ≡ true → more ≡ []) → (p : HasPlayed run taken r now)
+pub events_of : {W : Type 0} {S : SwapStore W} (run : Run S) (now : Stand) (taken : List ℕ) (r : Reader) (more : List ℕ) → (r.finished ≡ true → more ≡ []) → (p : HasPlayed run taken r now)
     → (input_of (taken ++ more)).events ≡ (play_of p.calls).answered ++ (left_of r more).events
 events_of run now taken r more may p = sym (ap (λ (input : Input). input.events) (left_is run now taken r more may p))
 
 -- the run follows its events
-known_follows : (run : Run) (now : Stand) (answered rest : List Event) (input : Input) → input.events ≡ answered ++ rest → Reaches run answered now
+pub known_follows : {W : Type 0} {S : SwapStore W} (run : Run S) (now : Stand) (answered rest : List Event) (input : Input) → input.events ≡ answered ++ rest → Reaches run answered now
     → IsKnown run now input → Follows run answered now
 known_follows run now answered rest input is reaches (inl trusted) = reaches.trusted trusted
 known_follows run now answered rest input is reaches (inr never) = go reaches.near
@@ -120,12 +120,12 @@ known_follows run now answered rest input is reaches (inr never) = go reaches.ne
         absurd (never (subst C (sym is) (events_full_front now.room run.limit run.start answered rest full)))
 
 -- .. and the next of them comes so
-known_comes : (run : Run) (mid next : Stand) (answered rest : List Event) (event : Event) (input : Input) (result : Result Ending PlayFault)
-    → input.events ≡ answered ++ event ∷ rest → next.trusted ≡ mid.trusted → next.room ≡ mid.room → Plays run.tells event run.limit mid next result
-    → Reaches run answered mid → IsKnown run next input → Follows run answered mid × Comes run.tells event run.limit mid next result
+known_comes : {W : Type 0} {S : SwapStore W} (run : Run S) (mid next : Stand) (answered rest : List Event) (event : Event) (input : Input) (result : Result Ending PlayFault)
+    → input.events ≡ answered ++ event ∷ rest → next.trusted ≡ mid.trusted → next.room ≡ mid.room → Plays (Stood S run.first) run.tells event run.limit mid next result
+    → Reaches run answered mid → IsKnown run next input → Follows run answered mid × Comes (Stood S run.first) run.tells event run.limit mid next result
 known_comes run mid next answered rest event input result is trust room plays reaches (inl trusted) =
     let before : mid.trusted ≡ true = sym trust ∙ trusted in (reaches.trusted before, plays.trusted before)
-known_comes run mid next answered rest event input result is trust room plays reaches (inr never) = go reaches.near
+known_comes {S = S} run mid next answered rest event input result is trust room plays reaches (inr never) = go reaches.near
   where
     at_most : ComesFull mid.room run.start (moments_of (answered ++ event ∷ rest) run.limit run.start) → ⊥
     at_most full =
@@ -133,26 +133,80 @@ known_comes run mid next answered rest event input result is trust room plays re
         never (subst C (sym is) (same_room mid.room next.room run.start (moments_of (answered ++ event ∷ rest) run.limit run.start) room full))
 
     played : Follows run answered mid
-        → (StaysNear next result × Comes run.tells event run.limit mid next result) ⊎ ComesFull mid.room mid.machine (event_moments event run.limit mid.machine)
-        → Follows run answered mid × Comes run.tells event run.limit mid next result
+        → (StaysNear next result × Comes (Stood S run.first) run.tells event run.limit mid next result) ⊎ ComesFull mid.room mid.machine (event_moments event run.limit mid.machine)
+        → Follows run answered mid × Comes (Stood S run.first) run.tells event run.limit mid next result
     played follows (inl both) = (follows, both.1)
     played follows (inr full) = absurd (at_most (event_full run mid answered event rest follows full))
 
     go : ((mid.near ≡ true) × Follows run answered mid) ⊎ ComesFull mid.room run.start (moments_of answered run.limit run.start)
-        → Follows run answered mid × Comes run.tells event run.limit mid next result
+        → Follows run answered mid × Comes (Stood S run.first) run.tells event run.limit mid next result
     go (inl both) = played both.1 (plays.near both.0)
     go (inr full) = absurd (at_most (events_full_front mid.room run.limit run.start answered (event ∷ rest) full))
 
+-- ---- for each state there stood a kernel
+
+-- where no events are left of the file
+stood_whole : {W : Type 0} {S : SwapStore W} (run : Run S) (now : Stand) (answered rest : List Event) (input : Input) → input.events ≡ answered ++ rest
+    → rest ≡ [] → Follows run answered now → StoodOver run input.events run.limit
+stood_whole run now answered rest input is none follows =
+    let A : List Event → Type 0 = λ events. StoodOver run events run.limit in
+    subst A (sym (is ∙ (ap (λ (events : List Event). answered ++ events) none ∙ append-nil answered))) follows.stood
+
+-- where the history ends at an event, by a limit that what was played before doesn't pass
+stood_to : {W : Type 0} {S : SwapStore W} (run : Run S) (mid : Stand) (answered : List Event) (event : Event) (events : List Event) (limit : ℕ)
+    → Follows run answered mid → mid.machine.steps ≤ limit → (play event limit mid.machine).met ≡ true
+    → Throughout (Stood S run.first) mid.machine (event_moments event limit mid.machine) → StoodOver run (answered ++ event ∷ events) limit
+stood_to {S = S} run mid answered event events limit follows within met through =
+    through_events (Stood S run.first) limit run.start mid.machine answered (event ∷ events)
+    (ap (λ (h : kernel.History). h.met) same ∙ follows.unmet) (ap (λ (h : kernel.History). h.machine) same ∙ follows.there)
+    (subst A (sym (moments_same answered run.limit limit run.start follows.unmet most)) follows.stood)
+    (through_last (Stood S run.first) limit mid.machine event events met through)
+  where
+    there : (history answered run.limit run.start).machine.steps ≡ mid.machine.steps
+    there = ap (λ (x : Machine). x.steps) follows.there
+
+    most : (history answered run.limit run.start).machine.steps ≤ limit
+    most = omega (arith, there, within)
+
+    same : history answered limit run.start ≡ history answered run.limit run.start
+    same = history_same answered run.limit limit run.start follows.unmet most
+
+    A : List Moment → Type 0
+    A moments = Throughout (Stood S run.first) run.start moments
+
+-- .. by its own limit
+stood_at_limit : {W : Type 0} {S : SwapStore W} (run : Run S) (mid : Stand) (answered : List Event) (event : Event) (events : List Event)
+    → Follows run answered mid → (play event run.limit mid.machine).met ≡ true
+    → Throughout (Stood S run.first) mid.machine (event_moments event run.limit mid.machine) → StoodOver run (answered ++ event ∷ events) run.limit
+stood_at_limit {S = S} run mid answered event events follows met through =
+    through_events (Stood S run.first) run.limit run.start mid.machine answered (event ∷ events) follows.unmet follows.there follows.stood
+    (through_last (Stood S run.first) run.limit mid.machine event events met through)
+
 -- ---- how the run ends
 
+-- so far no page is out, unless some state has more pages than there are frames for, whatever the rest of the file is
+near_so_far : {W : Type 0} {S : SwapStore W} (run : Run S) (now : Stand) (taken : List ℕ) (r : Reader) → HasPlayed run taken r now
+    → IsNearAtEnd run taken r.finished now
+near_so_far run now taken r p = λ more may. go more may p.reaches.near
+  where
+    go : (more : List ℕ) → (r.finished ≡ true → more ≡ [])
+        → ((now.near ≡ true) × Follows run (play_of p.calls).answered now)
+        ⊎ ComesFull now.room run.start (moments_of (play_of p.calls).answered run.limit run.start)
+        → (now.near ≡ true) ⊎ ComesFull now.room run.start (moments_of (input_of (taken ++ more)).events run.limit run.start)
+    go more may (inl both) = inl both.0
+    go more may (inr full) =
+        let C : List Event → Type 0 = λ events. ComesFull now.room run.start (moments_of events run.limit run.start) in
+        inr (subst C (ap (λ (input : Input). input.events) (left_is run now taken r more may p))
+        (events_full_front now.room run.limit run.start (play_of p.calls).answered (left_of r more).events full))
+
 -- what the rest of a file has as its bad line is that of the file
-bad_of : (run : Run) (now : Stand) (taken : List ℕ) (r : Reader) (more : List ℕ) (rest : Input) → (r.finished ≡ true → more ≡ [])
+bad_of : {W : Type 0} {S : SwapStore W} (run : Run S) (now : Stand) (taken : List ℕ) (r : Reader) (more : List ℕ) (rest : Input) → (r.finished ≡ true → more ≡ [])
     → HasPlayed run taken r now → left_of r more ≡ rest → (input_of (taken ++ more)).bad ≡ rest.bad
 bad_of run now taken r more rest may p left =
     sym (ap (λ (input : Input). input.bad) (left_is run now taken r more may p)) ∙ ap (λ (input : Input). input.bad) left
 
 -- a bad line ends the history
-pub ends_bad : (run : Run) (now : Stand) (taken : List ℕ) (r : Reader) (line : ℕ) → answer_of r ≡ answer.Bad line
+pub ends_bad : {W : Type 0} {S : SwapStore W} (run : Run S) (now : Stand) (taken : List ℕ) (r : Reader) (line : ℕ) → answer_of r ≡ answer.Bad line
     → HasPlayed run taken r now → EndsSo run taken r.finished now (BadLine line)
 ends_bad run now taken r line bad p = record {
   may = λ more may. bad_of run now taken r more (record { events = []; bad = Some line }) may p (left_bad r more line may bad);
@@ -163,7 +217,10 @@ ends_bad run now taken r line bad p = record {
       ap (λ (input : Input). history_of input run.limit now.machine) (left_bad r more line may bad) ∙ ap (with_ending (BadLine line)) (history_none run.limit now.machine) in (
         completes run now now.text taken r more (BadLine line) may p follows none is (gathered_nothing run.tells now.text (BadLine line) now.machine),
         ends_on run now taken r more may p follows none is,
+        stood_whole run now (play_of p.calls).answered (left_of r more).events (input_of (taken ++ more)) (events_of run now taken r more may p)
+            (ap (λ (input : Input). input.events) (left_bad r more line may bad)) follows,
       );
+  near = λ e. cc;
   silent = p.silent;
 }
 
@@ -171,7 +228,7 @@ ends_bad run now taken r line bad p = record {
 left_none : (r : Reader) (more : List ℕ) → answer_of r ≡ answer.End → (r.finished ≡ true → more ≡ []) → left_of r more ≡ record { events = []; bad = None }
 left_none r more end may = let both = left_end r end in ap (left_of r) (may both.0) ∙ both.1
 
-pub ends_whole : (run : Run) (now : Stand) (taken : List ℕ) (r : Reader) → answer_of r ≡ answer.End
+pub ends_whole : {W : Type 0} {S : SwapStore W} (run : Run S) (now : Stand) (taken : List ℕ) (r : Reader) → answer_of r ≡ answer.End
     → HasPlayed run taken r now → EndsSo run taken r.finished now Played
 ends_whole run now taken r end p = record {
   may = λ more may. bad_of run now taken r more (record { events = []; bad = None }) may p (left_none r more end may);
@@ -182,7 +239,10 @@ ends_whole run now taken r end p = record {
       ap (λ (input : Input). history_of input run.limit now.machine) (left_none r more end may) ∙ ap (with_ending Played) (history_none run.limit now.machine) in (
         completes run now now.text taken r more Played may p follows none is (gathered_nothing run.tells now.text Played now.machine),
         ends_on run now taken r more may p follows none is,
+        stood_whole run now (play_of p.calls).answered (left_of r more).events (input_of (taken ++ more)) (events_of run now taken r more may p)
+            (ap (λ (input : Input). input.events) (left_none r more end may)) follows,
       );
+  near = λ e. near_so_far run now taken r p;
   silent = p.silent;
 }
 
@@ -192,7 +252,7 @@ left_event r more event may found =
     sym (left_next r more may) ∙ ap (λ (events : List Event). with_events events (left_of (after_next r) more)) (events_one (answer_of r) event found)
 
 -- the events of the file, where this is the next
-events_with : (run : Run) (mid : Stand) (taken : List ℕ) (r : Reader) (event : Event) (more : List ℕ) → answer_of r ≡ answer.Event event
+events_with : {W : Type 0} {S : SwapStore W} (run : Run S) (mid : Stand) (taken : List ℕ) (r : Reader) (event : Event) (more : List ℕ) → answer_of r ≡ answer.Event event
     → (r.finished ≡ true → more ≡ []) → (p : HasPlayed run taken r mid)
     → (input_of (taken ++ more)).events ≡ (play_of p.calls).answered ++ event ∷ (left_of (after_next r) more).events
 events_with run mid taken r event more found may p =
@@ -206,17 +266,17 @@ may_stop LimitMet input line other = tt
 may_stop (BadLine n) input line other = absurd line
 
 -- an event at which the history ends
-pub ends_event : (run : Run) (mid next : Stand) (taken : List ℕ) (r : Reader) (event : Event) (ending : Ending) → answer_of r ≡ answer.Event event
-    → next.trusted ≡ mid.trusted → next.room ≡ mid.room → ending ≢ Played → Plays run.tells event run.limit mid next (Ok ending)
+pub ends_event : {W : Type 0} {S : SwapStore W} (run : Run S) (mid next : Stand) (taken : List ℕ) (r : Reader) (event : Event) (ending : Ending) → answer_of r ≡ answer.Event event
+    → next.trusted ≡ mid.trusted → next.room ≡ mid.room → ending ≢ Played → Plays (Stood S run.first) run.tells event run.limit mid next (Ok ending)
     → HasPlayed run taken r mid → EndsSo run taken r.finished next ending
-ends_event run mid next taken r event ending found trust room other plays p = record {
+ends_event {S = S} run mid next taken r event ending found trust room other plays p = record {
   may = λ more may. may_stop ending (input_of (taken ++ more)) plays.ends other;
   exact = λ more may known.
       let rest : Input = left_of (after_next r) more in
       let both = known_comes run mid next (play_of p.calls).answered rest.events event (input_of (taken ++ more)) (Ok ending)
       (events_with run mid taken r event more found may p) trust room plays p.reaches known in
       let follows : Follows run (play_of p.calls).answered mid = both.0 in
-      let comes : Comes run.tells event run.limit mid next (Ok ending) = both.1 in
+      let comes : Comes (Stood S run.first) run.tells event run.limit mid next (Ok ending) = both.1 in
       let played : kernel.History = play event run.limit mid.machine in
       let met : played.met ≡ true = other_met played ending comes.0.0 other in
       let is : history_of (left_of r more) run.limit mid.machine ≡ with_ending Played played =
@@ -225,13 +285,16 @@ ends_event run mid next taken r event ending found trust room other plays p = re
       ∙ met_ends (end_of rest.bad) Played played met) in (
         completes run mid next.text taken r more ending may p follows (with_ending Played played) is comes.0,
         comes.1 ∙ ends_on run mid taken r more may p follows (with_ending Played played) is,
+        subst (λ (events : List Event). StoodOver run events run.limit) (sym (events_with run mid taken r event more found may p))
+            (stood_at_limit run mid (play_of p.calls).answered event rest.events follows met comes.2),
       );
+  near = λ e. absurd (other e);
   silent = silent_after run.tells run.begun mid.text next.text p.silent plays.silent;
 }
 
 -- an event whose records couldn't be written
-fails_unwritten : (run : Run) (mid next : Stand) (taken : List ℕ) (r : Reader) (event : Event) → answer_of r ≡ answer.Event event
-    → next.trusted ≡ mid.trusted → next.room ≡ mid.room → Plays run.tells event run.limit mid next (Err Write)
+fails_unwritten : {W : Type 0} {S : SwapStore W} (run : Run S) (mid next : Stand) (taken : List ℕ) (r : Reader) (event : Event) → answer_of r ≡ answer.Event event
+    → next.trusted ≡ mid.trusted → next.room ≡ mid.room → Plays (Stood S run.first) run.tells event run.limit mid next (Err Write)
     → HasPlayed run taken r mid → FailsSo run taken r.finished next Write
 fails_unwritten run mid next taken r event found trust room plays p = λ more may known.
     let rest : Input = left_of (after_next r) more in
@@ -243,7 +306,7 @@ fails_unwritten run mid next taken r event found trust room plays p = λ more ma
     (part_followed run.tells mid.text next.text (end_of rest.bad) (play event run.limit mid.machine) (history rest.events run.limit) both.1)
 
 -- A run that follows its events, up to a limit that they don't pass, comes full in them or in the next.
-soon_full : (run : Run) (mid : Stand) (answered : List Event) (event : Event) (events : List Event) (limit : ℕ) → Follows run answered mid → mid.machine.steps ≤ limit
+soon_full : {W : Type 0} {S : SwapStore W} (run : Run S) (mid : Stand) (answered : List Event) (event : Event) (events : List Event) (limit : ℕ) → Follows run answered mid → mid.machine.steps ≤ limit
     → Reaches run answered mid → (mid.near ≡ true → ComesFull mid.room mid.machine (event_moments event limit mid.machine))
     → ComesFull mid.room run.start (moments_of (answered ++ event ∷ events) limit run.start)
 soon_full run mid answered event events limit follows within reaches soon = go reaches.near
@@ -266,10 +329,10 @@ soon_full run mid answered event events limit follows within reaches soon = go r
         (subst C (sym (moments_same answered run.limit limit run.start follows.unmet (omega (arith, there, within)))) full)
 
 -- an event in which the store failed
-fails_swapped : (run : Run) (mid next : Stand) (taken : List ℕ) (r : Reader) (event : Event) → answer_of r ≡ answer.Event event
-    → next.trusted ≡ mid.trusted → next.room ≡ mid.room → Plays run.tells event run.limit mid next (Err Swap)
+fails_swapped : {W : Type 0} {S : SwapStore W} (run : Run S) (mid next : Stand) (taken : List ℕ) (r : Reader) (event : Event) → answer_of r ≡ answer.Event event
+    → next.trusted ≡ mid.trusted → next.room ≡ mid.room → Plays (Stood S run.first) run.tells event run.limit mid next (Err Swap)
     → HasPlayed run taken r mid → FailsSo run taken r.finished next Swap
-fails_swapped run mid next taken r event found trust room plays p = record {
+fails_swapped {S = S} run mid next taken r event found trust room plays p = record {
   exact = λ more may trusted. some more may (sym trust ∙ trusted);
   full = λ more may. full more may;
   silent = silent_after run.tells run.begun mid.text next.text p.silent plays.silent;
@@ -295,6 +358,8 @@ fails_swapped run mid next taken r event found trust room plays p = record {
         let C : List Event → Type 0 = λ es. ComesFull mid.room run.start (moments_of es (done + 1) run.start) in
         record {
           some = record { done = done; within = comes.some.within; met = wrote.0; gathered = wrote.1 };
+          stood = subst (λ (es : List Event). StoodOver run es done) (sym (events_with run mid taken r event more found may p))
+              (stood_to run mid (play_of p.calls).answered event rest.events done follows within met comes.through);
           soon = same_room mid.room next.room run.start _ room (subst C (sym (events_with run mid taken r event more found may p))
               (soon_full run mid (play_of p.calls).answered event rest.events (done + 1) follows (omega (arith, within)) p.reaches comes.soon));
         }
@@ -307,7 +372,7 @@ fails_swapped run mid next taken r event found trust room plays p = record {
         (subst C (sym (events_with run mid taken r event more found may p)) (go p.reaches.near rest.events))
       where
         swapped : (events : List Event) → Follows run (play_of p.calls).answered mid
-            → (⊥ × Comes run.tells event run.limit mid next (Err Swap)) ⊎ ComesFull mid.room mid.machine (event_moments event run.limit mid.machine)
+            → (⊥ × Comes (Stood S run.first) run.tells event run.limit mid next (Err Swap)) ⊎ ComesFull mid.room mid.machine (event_moments event run.limit mid.machine)
             → ComesFull mid.room run.start (moments_of ((play_of p.calls).answered ++ event ∷ events) run.limit run.start)
         swapped events follows (inl none) = absurd none.0
         swapped events follows (inr crowd) = event_full run mid (play_of p.calls).answered event events follows crowd
@@ -317,8 +382,8 @@ fails_swapped run mid next taken r event found trust room plays p = record {
         go (inl both) events = swapped events both.1 (plays.near both.0)
         go (inr crowd) events = events_full_front mid.room run.limit run.start (play_of p.calls).answered (event ∷ events) crowd
 
-pub fails_event : (run : Run) (mid next : Stand) (taken : List ℕ) (r : Reader) (event : Event) (fault : PlayFault) → answer_of r ≡ answer.Event event
-    → next.trusted ≡ mid.trusted → next.room ≡ mid.room → Plays run.tells event run.limit mid next (Err fault)
+pub fails_event : {W : Type 0} {S : SwapStore W} (run : Run S) (mid next : Stand) (taken : List ℕ) (r : Reader) (event : Event) (fault : PlayFault) → answer_of r ≡ answer.Event event
+    → next.trusted ≡ mid.trusted → next.room ≡ mid.room → Plays (Stood S run.first) run.tells event run.limit mid next (Err fault)
     → HasPlayed run taken r mid → FailsSo run taken r.finished next fault
 fails_event run mid next taken r event Write found trust room plays p = fails_unwritten run mid next taken r event found trust room plays p
 fails_event run mid next taken r event Swap found trust room plays p = fails_swapped run mid next taken r event found trust room plays p
@@ -334,17 +399,19 @@ longer P taken rest whole f is unsaid each = λ more may.
     let Q : List ℕ → Type 0 = λ bytes. P (input_of bytes) in
     subst Q (sym (append_assoc taken rest more) ∙ ap (λ (l : List ℕ). l ++ more) (sym is)) (each (rest ++ more) (unsaid_end f (rest ++ more) unsaid))
 
-pub ends_longer : (run : Run) (now : Stand) (taken rest whole : List ℕ) (f : Bool) (ending : Ending) → whole ≡ taken ++ rest → f ≡ false
+pub ends_longer : {W : Type 0} {S : SwapStore W} (run : Run S) (now : Stand) (taken rest whole : List ℕ) (f : Bool) (ending : Ending) → whole ≡ taken ++ rest → f ≡ false
     → EndsSo run taken f now ending → EndsSo run whole false now ending
 ends_longer run now taken rest whole f ending is unsaid p = record {
   may = longer (λ input. MayEnd input ending) taken rest whole f is unsaid p.may;
   exact = longer (λ input. IsKnown run now input
-      → Gathered run.tells run.begun now.text (history_of input run.limit run.start) ending × (now.machine ≡ (history_of input run.limit run.start).machine))
+      → Gathered run.tells run.begun now.text (history_of input run.limit run.start) ending × (now.machine ≡ (history_of input run.limit run.start).machine)
+      × StoodOver run input.events run.limit)
       taken rest whole f is unsaid p.exact;
+  near = λ e. longer (λ input. (now.near ≡ true) ⊎ ComesFull now.room run.start (moments_of input.events run.limit run.start)) taken rest whole f is unsaid (p.near e);
   silent = p.silent;
 }
 
-pub fails_longer : (run : Run) (now : Stand) (taken rest whole : List ℕ) (f : Bool) (fault : PlayFault) → whole ≡ taken ++ rest → f ≡ false
+pub fails_longer : {W : Type 0} {S : SwapStore W} (run : Run S) (now : Stand) (taken rest whole : List ℕ) (f : Bool) (fault : PlayFault) → whole ≡ taken ++ rest → f ≡ false
     → FailsSo run taken f now fault → FailsSo run whole false now fault
 fails_longer run now taken rest whole f Write is unsaid p =
     longer (λ input. IsKnown run now input → GatheredPart run.tells run.begun now.text (history_of input run.limit run.start)) taken rest whole f is unsaid p
@@ -370,137 +437,33 @@ fed_offset r fed t rest is within = rw (is, length-append) (omega (arith, length
 
 -- ---- answers that are faults
 
-pub advances_err : (run : Run) (taken : List ℕ) (finished : Bool) (r : Reader) (now : Stand) (result : Result Advance PlayFault) (fault : PlayFault)
+pub advances_err : {W : Type 0} {S : SwapStore W} (run : Run S) (taken : List ℕ) (finished : Bool) (r : Reader) (now : Stand) (result : Result Advance PlayFault) (fault : PlayFault)
     → IsErrAnd result (λ e. e ≡ fault) → FailsSo run taken finished now fault → Advances run taken finished r now result
 advances_err run taken finished r now (Ok x) fault same fails = absurd same
 advances_err run taken finished r now (Err e) fault same fails = let F : PlayFault → Type 0 = λ x. FailsSo run taken finished now x in subst F (sym same) fails
 
-pub goes_err : (run : Run) (taken : List ℕ) (finished : Bool) (r : Reader) (now : Stand) (result : Result (Option Ending) PlayFault) (fault : PlayFault)
+pub goes_err : {W : Type 0} {S : SwapStore W} (run : Run S) (taken : List ℕ) (finished : Bool) (r : Reader) (now : Stand) (result : Result (Option Ending) PlayFault) (fault : PlayFault)
     → IsErrAnd result (λ e. e ≡ fault) → FailsSo run taken finished now fault → Goes run taken finished r now result
 goes_err run taken finished r now (Ok x) fault same fails = absurd same
 goes_err run taken finished r now (Err e) fault same fails = let F : PlayFault → Type 0 = λ x. FailsSo run taken finished now x in subst F (sym same) fails
 
--- ---- what is held is put
-
--- the run as it stands once this stands on the sink and nothing is held
-abbrev pub with_text : Stand → Text → Stand
-with_text now text = record now { text = text }
-
-put_reached : (run : Run) (events : List Event) (now : Stand) (after : Option (List ℕ)) → Puts now.text.out after now.text.held → Reaches run events now
-    → Reaches run events (with_text now (put after))
-put_reached run events now after grown reaches = record { trusted = λ trusted. follows (reaches.trusted trusted); near = go reaches.near }
-  where
-    follows : Follows run events now → Follows run events (with_text now (put after))
-    follows f = record { unmet = f.unmet; there = f.there; gathered = gathers_put run.begun now.text.out after now.text.held _ f.gathered grown }
-
-    go : ((now.near ≡ true) × Follows run events now) ⊎ ComesFull now.room run.start (moments_of events run.limit run.start)
-        → ((now.near ≡ true) × Follows run events (with_text now (put after))) ⊎ ComesFull now.room run.start (moments_of events run.limit run.start)
-    go (inl both) = inl (both.0, follows both.1)
-    go (inr full) = inr full
-
--- all of it
-pub put_goes : (run : Run) (now : Stand) (after : Option (List ℕ)) (taken : List ℕ) (f : Bool) (r : Reader) (ended : Option Ending)
-    → Puts now.text.out after now.text.held → Goes run taken f r now (Ok ended) → Goes run taken f r (with_text now (put after)) (Ok ended)
-put_goes run now after taken f r None grown p = record {
-  calls = p.calls;
-  is_reader = p.is_reader;
-  took = p.took;
-  reaches = put_reached run (play_of p.calls).answered now after grown p.reaches;
-  silent = silent_put run.tells run.begun now.text.out after now.text.held p.silent grown;
-}
-put_goes run now after taken f r (Some ending) grown p = record {
-  may = p.may;
-  exact = λ more may known.
-      let so = p.exact more may known in ((so.0.0, gathers_put run.begun now.text.out after now.text.held _ so.0.1 grown), so.1);
-  silent = silent_put run.tells run.begun now.text.out after now.text.held p.silent grown;
-}
-
--- .. also where the store failed
-pub put_swapped : (run : Run) (now : Stand) (after : Option (List ℕ)) (taken : List ℕ) (f : Bool)
-    → Puts now.text.out after now.text.held → FailsSo run taken f now Swap → FailsSo run taken f (with_text now (put after)) Swap
-put_swapped run now after taken f grown p = record {
-  exact = λ more may trusted.
-      let all = p.exact more may trusted in
-      let gathered = gathers_put run.begun now.text.out after now.text.held _ all.some.gathered grown in
-      record { some = record { done = all.some.done; within = all.some.within; met = all.some.met; gathered = gathered }; soon = all.soon };
-  full = p.full;
-  silent = silent_put run.tells run.begun now.text.out after now.text.held p.silent grown;
-}
-
--- .. or a part of it
-pub unput_fails : (run : Run) (now : Stand) (after : Option (List ℕ)) (taken : List ℕ) (f : Bool) (r : Reader) (ended : Option Ending)
-    → (ended ≡ None → r.finished ≡ f) → GrowsByProperPrefix now.text.out after now.text.held → Goes run taken f r now (Ok ended) → FailsSo run taken f (with_text now (put after)) Write
-unput_fails run now after taken f r None same front p = λ more may known.
-    let left : History = history_of (left_of r more) run.limit now.machine in
-    let in_time : r.finished ≡ true → more ≡ [] = λ said. may (sym (same refl) ∙ said) in
-    part_completes run now (put after) taken r more in_time p
-    (known_follows run now (play_of p.calls).answered (left_of r more).events (input_of (taken ++ more)) (events_of run now taken r more in_time p) p.reaches known)
-    left refl (front_longer now.text.out after now.text.held (told run.tells left.records) front)
-unput_fails run now after taken f r (Some ending) same front p = λ more may known.
-    let so = p.exact more may known in gathers_unput run.begun now.text.out after now.text.held _ so.0.1 front
-
--- .. where some state is full, trust is all that makes the pages known
-trusted_of : (run : Run) (now : Stand) (input : Input) → ComesFull now.room run.start (moments_of input.events run.limit run.start) → IsKnown run now input
-    → now.trusted ≡ true
-trusted_of run now input full (inl trusted) = trusted
-trusted_of run now input full (inr never) = absurd (never full)
-
-pub unput_swapped : (run : Run) (now : Stand) (after : Option (List ℕ)) (taken : List ℕ) (f : Bool)
-    → GrowsByProperPrefix now.text.out after now.text.held → FailsSo run taken f now Swap → FailsSo run taken f (with_text now (put after)) Write
-unput_swapped run now after taken f front p = λ more may known.
-    let some = (p.exact more may (trusted_of run now (input_of (taken ++ more)) (p.full more may) known)).some in
-    let first = some_first run.tells some.done run.limit run.start (input_of (taken ++ more)) some.within some.met in
-    let P : List ℕ → Type 0 = λ text. GathersPart run.begun (put after) text in
-    subst P (sym first.1) (part_longer run.begun (put after) _ first.0 (gathers_unput run.begun now.text.out after now.text.held _ some.gathered front))
-
--- ---- what comes of events, put, where this stood on the sink and was held
-
-pub all_of_it_put : (run : Run) (now : Stand) (out after : Option (List ℕ)) (held taken : List ℕ) (f : Bool) (r : Reader) (ended : Option Ending)
-    → now.text ≡ text out held → Puts out after held → Goes run taken f r now (Ok ended) → Goes run taken f r (with_text now (put after)) (Ok ended)
-all_of_it_put run now out after held taken f r ended same grown goes =
-    let G : Text → Type 0 = λ t. Puts t.out after t.held in put_goes run now after taken f r ended (subst G (sym same) grown) goes
-
-pub part_of_it_put : (run : Run) (now : Stand) (out after : Option (List ℕ)) (held taken : List ℕ) (f : Bool) (r : Reader) (ended : Option Ending)
-    → now.text ≡ text out held → (ended ≡ None → r.finished ≡ f) → GrowsByProperPrefix out after held → Goes run taken f r now (Ok ended)
-    → FailsSo run taken f (with_text now (put after)) Write
-part_of_it_put run now out after held taken f r ended same waits front goes =
-    let G : Text → Type 0 = λ t. GrowsByProperPrefix t.out after t.held in unput_fails run now after taken f r ended waits (subst G (sym same) front) goes
-
--- where the store failed
-pub steps_before_put : (run : Run) (now : Stand) (out after : Option (List ℕ)) (held taken : List ℕ) (f : Bool)
-    → now.text ≡ text out held → Puts out after held → FailsSo run taken f now Swap → FailsSo run taken f (with_text now (put after)) Swap
-steps_before_put run now out after held taken f same grown fails =
-    let G : Text → Type 0 = λ t. Puts t.out after t.held in put_swapped run now after taken f (subst G (sym same) grown) fails
-
-pub steps_before_unput : (run : Run) (now : Stand) (out after : Option (List ℕ)) (held taken : List ℕ) (f : Bool)
-    → now.text ≡ text out held → GrowsByProperPrefix out after held → FailsSo run taken f now Swap → FailsSo run taken f (with_text now (put after)) Write
-steps_before_unput run now out after held taken f same front fails =
-    let G : Text → Type 0 = λ t. GrowsByProperPrefix t.out after t.held in unput_swapped run now after taken f (subst G (sym same) front) fails
-
--- a write failed before: nothing more is put
-pub none_of_it_put : (run : Run) (now : Stand) (out : Option (List ℕ)) (held taken : List ℕ) (f : Bool)
-    → now.text ≡ text out held → FailsSo run taken f now Write → FailsSo run taken f (with_text now (put out)) Write
-none_of_it_put run now out held taken f same fails = λ more may known.
-    let P : Text → Type 0 = λ t. GatheredPart run.tells run.begun t (history_of (input_of (taken ++ more)) run.limit run.start) in
-    let part : P (text out held) = subst P same (fails more may known) in
-    part
-
 -- ---- the whole lines
 
 -- they have these events, and none is bad
-lines_are : (run : Run) (now : Stand) (taken : List ℕ) (r : Reader) → IsWaiting r → (p : HasPlayed run taken r now)
+lines_are : {W : Type 0} {S : SwapStore W} (run : Run S) (now : Stand) (taken : List ℕ) (r : Reader) → IsWaiting r → (p : HasPlayed run taken r now)
     → input_of (whole_lines taken) ≡ record { events = (play_of p.calls).answered; bad = None }
 lines_are run now taken r waiting p =
     let waits : IsWaiting (play_of p.calls).reader = subst (λ x. IsWaiting x) (sym p.is_reader) waiting in
     ap (λ (l : List ℕ). input_of (whole_lines l)) (sym p.took) ∙ play_whole p.calls waits
 
-pub whole_lines_good : (run : Run) (now : Stand) (taken : List ℕ) (r : Reader) → IsWaiting r → HasPlayed run taken r now → (input_of (whole_lines taken)).bad ≡ None
+pub whole_lines_good : {W : Type 0} {S : SwapStore W} (run : Run S) (now : Stand) (taken : List ℕ) (r : Reader) → IsWaiting r → HasPlayed run taken r now → (input_of (whole_lines taken)).bad ≡ None
 whole_lines_good run now taken r waiting p = ap (λ (input : Input). input.bad) (lines_are run now taken r waiting p)
 
 -- what was played while the reader waits is the history of the whole lines that it took
-pub whole_lines_played : (run : Run) (now : Stand) (begun out : Option (List ℕ)) (taken : List ℕ) (r : Reader) → run.begun ≡ put begun → now.text ≡ put out → IsWaiting r
+pub whole_lines_played : {W : Type 0} {S : SwapStore W} (run : Run S) (now : Stand) (begun out : Option (List ℕ)) (taken : List ℕ) (r : Reader) → run.begun ≡ put begun → now.text ≡ put out → IsWaiting r
     → HasPlayed run taken r now → IsKnown run now (input_of (whole_lines taken))
     → Wrote run.tells begun out (history_of (input_of (whole_lines taken)) run.limit run.start) Played
+    × StoodOver run (input_of (whole_lines taken)).events run.limit
 whole_lines_played run now begun out taken r first last waiting p known =
     let input = lines_are run now taken r waiting p in
     let events : (input_of (whole_lines taken)).events ≡ (play_of p.calls).answered ++ [] =
@@ -508,8 +471,10 @@ whole_lines_played run now begun out taken r first last waiting p known =
     let follows = known_follows run now (play_of p.calls).answered [] (input_of (whole_lines taken)) events p.reaches known in
     let h : kernel.History = history (play_of p.calls).answered run.limit run.start in
     let A : Text → Type 0 = λ text. Gathers text now.text (told run.tells h.records) in
-    let B : Text → Type 0 = λ text. Gathers (put begun) text (told run.tells h.records) in
-    all_put run.tells begun out (history_of (input_of (whole_lines taken)) run.limit run.start) Played
-    (gathered_same run.tells (put begun) (put out) (history_of (input_of (whole_lines taken)) run.limit run.start) (with_ending Played h) Played
-    (ap (λ (i : Input). history_of i run.limit run.start) input)
-    (unmet_ends Played h follows.unmet, subst B last (subst A first follows.gathered)))
+    let B : Text → Type 0 = λ text. Gathers (put begun) text (told run.tells h.records) in (
+      all_put run.tells begun out (history_of (input_of (whole_lines taken)) run.limit run.start) Played
+          (gathered_same run.tells (put begun) (put out) (history_of (input_of (whole_lines taken)) run.limit run.start) (with_ending Played h) Played
+          (ap (λ (i : Input). history_of i run.limit run.start) input)
+          (unmet_ends Played h follows.unmet, subst B last (subst A first follows.gathered))),
+      stood_whole run now (play_of p.calls).answered [] (input_of (whole_lines taken)) events refl follows,
+    )

@@ -65,7 +65,7 @@ first_event_full room limit m event events full = full_front room m (event_momen
 
 -- ---- of a tick
 
-tick_is : (n limit : ℕ) (m : Machine) → 1 ≤ n → is_some (actor m) ≡ true → m.steps ≢ limit
+pub tick_is : (n limit : ℕ) (m : Machine) → 1 ≤ n → is_some (actor m) ≡ true → m.steps ≢ limit
     → event_moments (Tick n) limit m ≡ moment_of ByStep m ∷ event_moments (Tick (n - 1)) limit (step m).machine
 unfolding event_moments tick_moments
 tick_is zero limit m some ready more = absurd (omega (arith, some))

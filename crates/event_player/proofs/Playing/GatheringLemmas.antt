@@ -1,7 +1,7 @@
 -- Telling, one piece after another, while what is told is gathered.
 use Rattle.std.proofs.Common.{◌≡◌, ℕ, true, List, [], ◌∷◌, ◌++◌, Option, refl, sym, ap, subst, ◌∙◌, append_assoc, append-nil}
 use Rattle.xk_base.specs.declared.records.Rec.{Rec}
-use Rattle.xk_ports.specs.Told.{Grows, GrowsByProperPrefix}
+use Rattle.xk_ports.specs.Told.{GrowsByProperPrefix}
 use Rattle.xk_ports.proofs.ToldLemmas.{Grows-append, Grows-none}
 use Rattle.host_io.proofs.ToldLemmas.{left_longer}
 use Rattle.event_player.specs.declared.telling.Telling.{Telling}

@@ -1,10 +1,9 @@
 -- What is kept of a kernel and of a store, one call after another.
-use Rattle.std.proofs.Common.{ℕ, Bool, Option, refl, ◌∙◌, arith}
+use Rattle.std.proofs.Common.{refl, ◌∙◌, arith}
 use Rattle.xk_ports.specs.declared.store.SwapStore.{Ghosts as SwapStore}
 use Rattle.xk_ports.specs.Keeping.{KeepsStore}
 use Rattle.xk_kernel.specs.Sound.{Keeps}
 use Rattle.xk_kernel.specs.declared.kernel.Kernel.{Kernel}
-use Rattle.xk_ports.specs.Store.{Contents}
 
 store_same : {W : Type 0} {S : SwapStore W} (w : W)
     → KeepsStore S w w

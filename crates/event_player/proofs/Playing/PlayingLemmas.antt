@@ -1,5 +1,8 @@
 -- What was played so far, one answer of the reader further.
 use Rattle.std.proofs.Common.{◌≡◌, ◌⊎◌, inl, inr, ℕ, Bool, true, false, List, [], ◌∷◌, ◌++◌, Ok, refl, sym, ap, ◌∙◌, subst, append-nil}
+use Rattle.xk_kernel.specs.Moments.{Stood}
+use Rattle.xk_kernel.specs.declared.kernel.Kernel.{Kernel}
+use Rattle.xk_ports.specs.declared.store.SwapStore.{Ghosts as SwapStore}
 use Rattle.event_player.specs.declared.telling.Telling.{Telling}
 use Rattle.event_player.specs.Telling.{told}
 use Rattle.machine_model.specs.Runs.Moments.{Moment}
@@ -16,13 +19,14 @@ use Rattle.machine_laws.specs.History.{history, play}
 use Rattle.machine_laws.specs.HistoryMoments.{event_moments, moments_of}
 use Rattle.event_player.specs.History.{with_ending}
 use Rattle.event_player.specs.Rooms.{ComesFull, IsFull, Room}
-use Rattle.event_player.specs.Playing.{Comes, Follows, HasPlayed, Plays, Reaches, Run, run_from}
+use Rattle.event_player.specs.Playing.{Comes, Follows, HasPlayed, Plays, Reaches, Run, StoodOver, run_from}
 use Rattle.event_player.specs.Standing.{Begins, Stand}
 use Rattle.event_player.specs.Gathering.{Gathered, Gathers, Text}
 use Rattle.machine_laws.proofs.Histories.HistoryLemmas.{history_none}
 use Rattle.event_player.proofs.Playing.FullLemmas.{events_full_front, events_full_later, first_event_full, full_start}
 use Rattle.event_player.proofs.Playing.GatheringLemmas.{gathers_none, silent_after, silent_same}
 use Rattle.event_player.proofs.Playing.HistoryLemmas.{gathered_behind, gathered_nothing, history_after, history_one, played_unmet}
+use Rattle.event_player.proofs.Playing.StoodLemmas.{through_event, through_events, through_no_events}
 
 -- ---- the start
 
@@ -45,8 +49,9 @@ unfolding play_of
 new_answered = refl
 
 -- nothing was played yet
-pub played_none : (tells : Telling) (limit : ℕ) (start : Machine) (now : Stand) → Begins start now → HasPlayed (run_from tells limit start now.text) [] new_reader now
-played_none tells limit start now begins = record {
+pub played_none : {W : Type 0} (S : SwapStore W) (first : Kernel W) (tells : Telling) (limit : ℕ) (start : Machine) (now : Stand)
+    → Stood S first now.machine → Begins start now → HasPlayed (run_from S first tells limit start now.text) [] new_reader now
+played_none S first tells limit start now stood begins = record {
   calls = [];
   is_reader = new_is;
   took = new_took;
@@ -54,8 +59,8 @@ played_none tells limit start now begins = record {
   silent = silent_same tells now.text now.text refl;
 }
   where
-    run : Run
-    run = run_from tells limit start now.text
+    run : Run S
+    run = run_from S first tells limit start now.text
 
     is : history (play_of []).answered limit start ≡ kernel.reached (nothing start)
     is = ap (λ (events : List Event). history events limit start) new_answered ∙ history_none limit start
@@ -63,7 +68,13 @@ played_none tells limit start now begins = record {
     follows : now.machine ≡ start → Follows run (play_of []).answered now
     follows there =
         let all = start_with tells start now.text (history (play_of []).answered limit start) is in
-        record { unmet = all.0; there = all.1 ∙ sym there; gathered = all.2 }
+        let none : List Event → Type 0 = λ events. StoodOver run events limit in
+        record {
+          unmet = all.0;
+          there = all.1 ∙ sym there;
+          gathered = all.2;
+          stood = subst none (sym new_answered) (through_no_events (Stood S first) limit start (subst (Stood S first) there stood));
+        }
 
     go : ((now.near ≡ true) × (now.machine ≡ start)) ⊎ IsFull now.room start
         → ((now.near ≡ true) × Follows run (play_of []).answered now) ⊎ ComesFull now.room start (moments_of (play_of []).answered limit start)
@@ -77,12 +88,12 @@ took_bytes : (bytes : List ℕ) (calls : List Call) → (play_of calls).reader.f
 unfolding play_of
 took_bytes bytes calls unsaid = ap (λ (f : Bool). after_bytes f bytes (play_of calls)) unsaid
 
-same_reached : (run : Run) (now : Stand) (one other : List Event) → other ≡ one → Reaches run one now → Reaches run other now
+same_reached : {W : Type 0} {S : SwapStore W} (run : Run S) (now : Stand) (one other : List Event) → other ≡ one → Reaches run one now → Reaches run other now
 same_reached run now one other same reaches =
     let R : List Event → Type 0 = λ events. Reaches run events now in subst R (sym same) reaches
 
 -- the reader took more bytes
-pub played_bytes : (run : Run) (now : Stand) (taken : List ℕ) (r : Reader) (bytes : List ℕ) → r.finished ≡ false
+pub played_bytes : {W : Type 0} {S : SwapStore W} (run : Run S) (now : Stand) (taken : List ℕ) (r : Reader) (bytes : List ℕ) → r.finished ≡ false
     → HasPlayed run taken r now → HasPlayed run (taken ++ bytes) (with_bytes r bytes) now
 played_bytes run now taken r bytes unsaid p =
     let is = took_bytes bytes p.calls (ap (λ (x : Reader). x.finished) p.is_reader ∙ unsaid) in
@@ -99,7 +110,7 @@ unfolding play_of
 said_end calls = refl
 
 -- the end was said
-pub played_end : (run : Run) (now : Stand) (taken : List ℕ) (r : Reader) → HasPlayed run taken r now → HasPlayed run taken (finished_reader r) now
+pub played_end : {W : Type 0} {S : SwapStore W} (run : Run S) (now : Stand) (taken : List ℕ) (r : Reader) → HasPlayed run taken r now → HasPlayed run taken (finished_reader r) now
 played_end run now taken r p =
     let is = said_end p.calls in
     record {
@@ -118,7 +129,7 @@ unfolding play_of
 asked_next calls = refl
 
 -- an answer without an event
-pub played_no_event : (run : Run) (now : Stand) (taken : List ℕ) (r : Reader) → events_in (answer_of r) ≡ [] → HasPlayed run taken r now → HasPlayed run taken (after_next r) now
+pub played_no_event : {W : Type 0} {S : SwapStore W} (run : Run S) (now : Stand) (taken : List ℕ) (r : Reader) → events_in (answer_of r) ≡ [] → HasPlayed run taken r now → HasPlayed run taken (after_next r) now
 played_no_event run now taken r none p =
     let is = asked_next p.calls in
     let same : (play_of (asks ∷ p.calls)).answered ≡ (play_of p.calls).answered =
@@ -161,16 +172,22 @@ pub events_one : (found : NextEvent) (event : Event) → found ≡ answer.Event 
 events_one found event is = rw is refl
 
 -- the run follows one event more
-follows_more : (run : Run) (mid next : Stand) (answered : List Event) (event : Event) → Follows run answered mid
-    → Comes run.tells event run.limit mid next (Ok Played) → Follows run (answered ++ event ∷ []) next
-follows_more run mid next answered event follows comes =
+follows_more : {W : Type 0} {S : SwapStore W} (run : Run S) (mid next : Stand) (answered : List Event) (event : Event) → Follows run answered mid
+    → Comes (Stood S run.first) run.tells event run.limit mid next (Ok Played) → Follows run (answered ++ event ∷ []) next
+follows_more {S = S} run mid next answered event follows comes =
     let all = one_more run.tells run.limit run.start mid.machine next.machine run.begun mid.text next.text answered event follows.unmet follows.there follows.gathered
     (played_unmet (play event run.limit mid.machine) comes.0.0) (sym comes.1) comes.0.1
     (history (answered ++ event ∷ []) run.limit run.start) refl in
-    record { unmet = all.0; there = all.1; gathered = all.2 }
+    record {
+      unmet = all.0;
+      there = all.1;
+      gathered = all.2;
+      stood = through_events (Stood S run.first) run.limit run.start mid.machine answered (event ∷ []) follows.unmet follows.there follows.stood
+          (through_event (Stood S run.first) run.limit mid.machine event comes.2);
+    }
 
 -- an event comes full on a run
-pub event_full : (run : Run) (mid : Stand) (answered : List Event) (event : Event) (events : List Event) → Follows run answered mid
+pub event_full : {W : Type 0} {S : SwapStore W} (run : Run S) (mid : Stand) (answered : List Event) (event : Event) (events : List Event) → Follows run answered mid
     → ComesFull mid.room mid.machine (event_moments event run.limit mid.machine)
     → ComesFull mid.room run.start (moments_of (answered ++ event ∷ events) run.limit run.start)
 event_full run mid answered event events follows full =
@@ -180,9 +197,9 @@ event_full run mid answered event events follows full =
 pub same_room : (one other : Room) (start : Machine) (moments : List Moment) → other ≡ one → ComesFull one start moments → ComesFull other start moments
 same_room one other start moments same full = let C : Room → Type 0 = λ room. ComesFull room start moments in subst C (sym same) full
 
-reaches_more : (run : Run) (mid next : Stand) (answered : List Event) (event : Event) → next.trusted ≡ mid.trusted → next.room ≡ mid.room
-    → Plays run.tells event run.limit mid next (Ok Played) → Reaches run answered mid → Reaches run (answered ++ event ∷ []) next
-reaches_more run mid next answered event trust room plays reaches = record {
+reaches_more : {W : Type 0} {S : SwapStore W} (run : Run S) (mid next : Stand) (answered : List Event) (event : Event) → next.trusted ≡ mid.trusted → next.room ≡ mid.room
+    → Plays (Stood S run.first) run.tells event run.limit mid next (Ok Played) → Reaches run answered mid → Reaches run (answered ++ event ∷ []) next
+reaches_more {S = S} run mid next answered event trust room plays reaches = record {
   trusted = λ trusted.
       let before : mid.trusted ≡ true = sym trust ∙ trusted in
       follows_more run mid next answered event (reaches.trusted before) (plays.trusted before);
@@ -193,7 +210,7 @@ reaches_more run mid next answered event trust room plays reaches = record {
     moments = moments_of (answered ++ event ∷ []) run.limit run.start
 
     played : Follows run answered mid
-        → ((next.near ≡ true) × Comes run.tells event run.limit mid next (Ok Played)) ⊎ ComesFull mid.room mid.machine (event_moments event run.limit mid.machine)
+        → ((next.near ≡ true) × Comes (Stood S run.first) run.tells event run.limit mid next (Ok Played)) ⊎ ComesFull mid.room mid.machine (event_moments event run.limit mid.machine)
         → ((next.near ≡ true) × Follows run (answered ++ event ∷ []) next) ⊎ ComesFull next.room run.start (moments_of (answered ++ event ∷ []) run.limit run.start)
     played follows (inl both) = inl (both.0, follows_more run mid next answered event follows both.1)
     played follows (inr full) = inr (same_room mid.room next.room run.start _ room (event_full run mid answered event [] follows full))
@@ -204,8 +221,8 @@ reaches_more run mid next answered event trust room plays reaches = record {
     go (inr full) = inr (same_room mid.room next.room run.start _ room (events_full_front mid.room run.limit run.start answered (event ∷ []) full))
 
 -- an event that was played
-pub played_event : (run : Run) (mid next : Stand) (taken : List ℕ) (r : Reader) (event : Event) → answer_of r ≡ answer.Event event
-    → next.trusted ≡ mid.trusted → next.room ≡ mid.room → Plays run.tells event run.limit mid next (Ok Played)
+pub played_event : {W : Type 0} {S : SwapStore W} (run : Run S) (mid next : Stand) (taken : List ℕ) (r : Reader) (event : Event) → answer_of r ≡ answer.Event event
+    → next.trusted ≡ mid.trusted → next.room ≡ mid.room → Plays (Stood S run.first) run.tells event run.limit mid next (Ok Played)
     → HasPlayed run taken r mid → HasPlayed run taken (after_next r) next
 played_event run mid next taken r event found trust room plays p =
     let is = asked_next p.calls in

@@ -25,7 +25,7 @@ pub record IsSilent (m : Machine) : Type 0 where
   pub actor : is_some (actor m) ≡ true
   pub records : (step m).records ≡ []
 
-quiet_silent : (m : Machine) → is_quiet m ≡ true → IsSilent m
+pub quiet_silent : (m : Machine) → is_quiet m ≡ true → IsSilent m
 unfolding is_quiet actor
 quiet_silent m quiet = go (m.threads m.cursor) refl
   where

@@ -1,12 +1,11 @@
 -- Where a run stands, from one call of the kernel to the next.
 use Rattle.xk_ports.specs.declared.store.SwapStore.{Ghosts as SwapStore}
-use Rattle.std.proofs.Common.{◌≡◌, ◌==◌, ◌&&◌, ◌||◌, ◌∙◌, ℕ, Bool, true, false, List, Option, IsTrue, is_some, refl, ap, arith}
+use Rattle.std.proofs.Common.{◌≡◌, ◌==◌, ◌&&◌, ◌||◌, ◌∙◌, ℕ, Bool, true, false, IsTrue, is_some, refl, ap, arith}
 use Rattle.std.proofs.lemmas.Bool.Decides.{nat_tests}
 use Rattle.boot_plan.specs.Capacity.{page_frames}
 use Rattle.phys_pages.specs.Owners.{infos, slot_seat}
-use Rattle.sv32_space.specs.Tie.{Held}
 use Rattle.vm_memory.specs.Bytes.{MeansBytes, is_known, none_out}
-use Rattle.vm_memory.specs.Memory.{Size, size, store_of}
+use Rattle.vm_memory.specs.Memory.{Size, size}
 use Rattle.vm_memory.specs.declared.memory.Memory.{Memory}
 use Rattle.xk_base.specs.Tables.Counting.{count_below}
 use Rattle.xk_kernel.specs.Knowing.{KnowsBytes, is_trusted}

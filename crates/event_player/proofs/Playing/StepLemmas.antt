@@ -7,7 +7,8 @@ use Rattle.sv32_space.specs.Tie.{Held}
 use Rattle.vm_memory.specs.Bytes.{none_out}
 use Rattle.xk_base.specs.declared.records.Rec.{Rec}
 use Rattle.xk_kernel.specs.Knowing.{KnowsBytes}
-use Rattle.xk_kernel.specs.Sound.{Keeps}
+use Rattle.xk_kernel.specs.Moments.{Stood}
+use Rattle.xk_kernel.specs.Sound.{IsSound, IsUsable, Keeps}
 use Rattle.xk_kernel.specs.State.{machine_of}
 use Rattle.xk_kernel.specs.Stepping.{CountsStep, DoesStep, MayExchange, last_of}
 use Rattle.xk_kernel.specs.declared.kernel.Kernel.{Kernel}
@@ -19,6 +20,7 @@ use Rattle.event_player.specs.Standing.{room_in, stand}
 use Rattle.event_player.specs.Telling.{told}
 use Rattle.event_player.proofs.Playing.GatheringLemmas.{gathers_silent}
 use Rattle.event_player.proofs.Playing.StandingLemmas.{near_knows, room_stays, trust_stays, trusted_knows}
+use Rattle.event_player.proofs.Playing.StoodLemmas.{stood_here, stood_since}
 use Rattle.event_player.proofs.Playing.TickLemmas.{DoesOne, FailsOne, StepsTo}
 
 -- where no page is out before, none is out after, or the state after the step has more pages than there are frames for
@@ -40,11 +42,13 @@ full_where_near held old (inl is) near = absurd (false≢true (sym is ∙ near))
 full_where_near held old (inr full) near = full
 
 pub step_does : {W : Type 0} {S : SwapStore W} {old new : Kernel W} (tells : Telling) (limit : ℕ) (before after : Text)
-    → Keeps S old new → CountsStep S.held old new Did → (machine_of S.held old).steps ≢ limit
+    → IsSound S old → IsUsable old → Keeps S old new → CountsStep S.held old new Did → (machine_of S.held old).steps ≢ limit
     → (KnowsBytes S old new → DoesStep S.held old new Did) → (none_out new.mem ≡ false → MayExchange S.held old)
     → Gathers before after (told tells (last_of new))
-    → DoesOne tells limit (stand S old before) (stand S new after)
-step_does {S = S} {old = old} {new = new} tells limit before after keeps counts more does out gathered = record {
+    → DoesOne (Stood S old) (Stood S new) tells limit (stand S old before) (stand S new after)
+step_does {S = S} {old = old} {new = new} tells limit before after sound usable keeps counts more does out gathered = record {
+  here = stood_here sound usable;
+  since = stood_since keeps;
   actor = counts.0;
   more = more;
   trust = trust_stays keeps;

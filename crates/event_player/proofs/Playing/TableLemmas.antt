@@ -19,7 +19,6 @@ use Rattle.machine_model.specs.State.Machine.{Machine}
 use Rattle.page_views.specs.Here.{here_at, here_of}
 use Rattle.xk_base.specs.Tables.Counting.{listed_below}
 use Rattle.xk_base.specs.declared.ids.Place.{Place}
-use Rattle.sv32_space.specs.Tie.{Held}
 use Rattle.xk_kernel.specs.Sound.{IsSound}
 use Rattle.xk_kernel.specs.State.{machine_of}
 use Rattle.xk_kernel.specs.declared.kernel.Kernel.{Kernel}

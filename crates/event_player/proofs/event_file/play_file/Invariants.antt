@@ -1,5 +1,4 @@
 use Rattle.std.proofs.Common.{◌≡◌, ◌≤◌, ◌+◌, ◌-◌, List, ℕ, length}
-use Rattle.event_text.specs.Held.{IsWaiting}
 use Rattle.machine_model.specs.State.Machine.{Machine}
 use Rattle.xk_kernel.specs.Sound.{IsSound, IsUsable, Keeps}
 use Rattle.xk_kernel.specs.State.{machine_of}
@@ -8,6 +7,7 @@ use Rattle.xk_ports.specs.Told.{Consumes}
 use Rattle.xk_ports.specs.declared.host.FileSlot.TheVariants.{First, Second}
 use Rattle.event_player.specs.Gathering.{put}
 use Rattle.event_player.specs.Playing.{HasPlayed, run_from}
+use Rattle.event_player.specs.Reading.{WaitsForBytes}
 use Rattle.event_player.specs.Standing.{Begins, stand}
 use Rattle.event_player.proofs.event_file.play_file.Given as goal
 
@@ -16,9 +16,8 @@ abbrev pub invariant-pieces : goal.invariant-pieces
 invariant-pieces g l = record {
   front : (taken : List ℕ) × Consumes (g.H.Host.left l.fn.host Second) (g.H.Host.left l.host Second) taken
       × ((start : Machine) → Begins start (stand g.W.SwapStore l.fn.kernel (put (g.K.Sink.written l.fn.out)))
-      → HasPlayed (run_from l.tells l.limit start (put (g.K.Sink.written l.fn.out))) taken l.reader (stand g.W.SwapStore l.kernel (put (g.K.Sink.written l.out))));
-  waits : IsWaiting l.reader;
-  inside : l.reader.start + length l.reader.held ≤ EVENT_FILE_LIMIT;
+      → HasPlayed (run_from g.W.SwapStore l.fn.kernel l.tells l.limit start (put (g.K.Sink.written l.fn.out))) taken l.reader (stand g.W.SwapStore l.kernel (put (g.K.Sink.written l.out))));
+  waits : WaitsForBytes l.reader;
   sound : IsSound g.W.SwapStore l.kernel;
   usable : IsUsable l.kernel;
   keeps : Keeps g.W.SwapStore l.fn.kernel l.kernel;

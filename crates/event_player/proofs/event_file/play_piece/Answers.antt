@@ -3,34 +3,35 @@ use Rattle.event_player.specs.declared.ending.Ending.{Ending}
 use Rattle.event_player.specs.Gathering.{text}
 use Rattle.event_player.specs.Playing.{HasPlayed, run_from}
 use Rattle.event_player.specs.Standing.{Stand, stand}
-use Rattle.event_player.proofs.Playing.EndingLemmas.{all_of_it_put, part_of_it_put}
+use Rattle.event_player.proofs.Playing.PuttingLemmas.{all_of_it_put, held_put_before, part_of_it_put}
 use Rattle.event_player.proofs.event_file.play_piece.Goals as goal
 
 pub returns-in-Ok-put_held-clause-goes : goal.returns-in-Ok-put_held-clause-goes
-returns-in-Ok-put_held-clause-goes g c = λ start begun taken p.
-    let run = run_from c.args.tells c.args.limit start begun in
+returns-in-Ok-put_held-clause-goes g c = λ first start begun taken since p.
+    let run = run_from g.W.SwapStore first c.args.tells c.args.limit start begun in
     let out = g.K.Sink.written c.feed_piece.new.out in
     let now : Stand = stand g.W.SwapStore c.feed_piece.new.kernel (text out c.feed_piece.new.held.items) in
     let P : List ℕ → Type 0 = λ held. HasPlayed run taken c.args.reader.now (stand g.W.SwapStore c.args.kernel.now (text (g.K.Sink.written c.args.out.now) held)) in
     let q : P c.new-held.result.items = subst P (sym c.new-held.ensures) p in
     all_of_it_put run now out (g.K.Sink.written c.put_held.new.out) c.feed_piece.new.held.items (taken ++ c.args.piece.now) false c.feed_piece.new.reader c.in-Ok.ended refl
-    c.in-Ok-put_held.ensures.put (c.in-Ok.ensures.goes start begun taken q)
+    c.in-Ok-put_held.ensures.put (c.in-Ok.ensures.goes first start begun taken since q)
 
 pub returns-in-Err-put_held-clause-goes : goal.returns-in-Err-put_held-clause-goes
-returns-in-Err-put_held-clause-goes g c = λ start begun taken p.
-    let run = run_from c.args.tells c.args.limit start begun in
+returns-in-Err-put_held-clause-goes g c = λ first start begun taken since p.
+    let run = run_from g.W.SwapStore first c.args.tells c.args.limit start begun in
     let out = g.K.Sink.written c.feed_piece.new.out in
     let now : Stand = stand g.W.SwapStore c.feed_piece.new.kernel (text out c.feed_piece.new.held.items) in
     let P : List ℕ → Type 0 = λ held. HasPlayed run taken c.args.reader.now (stand g.W.SwapStore c.args.kernel.now (text (g.K.Sink.written c.args.out.now) held)) in
     let q : P c.new-held.result.items = subst P (sym c.new-held.ensures) p in
     part_of_it_put run now out (g.K.Sink.written c.put_held.new.out) c.feed_piece.new.held.items (taken ++ c.args.piece.now) false c.feed_piece.new.reader c.in-Ok.ended refl
-    (λ none. (c.in-Ok.ensures.waits (ap (λ (o : Option Ending). Ok o) none)).0.1) c.in-Err-put_held.ensures.front (c.in-Ok.ensures.goes start begun taken q)
+    (λ none. (c.in-Ok.ensures.answers.waits (ap (λ (o : Option Ending). Ok o) none)).0.1) c.in-Err-put_held.ensures.front (c.in-Ok.ensures.goes first start begun taken since q)
 
 pub returns-in-Err-clause-goes : goal.returns-in-Err-clause-goes
-returns-in-Err-clause-goes g c = λ start begun taken p.
-    let run = run_from c.args.tells c.args.limit start begun in
+returns-in-Err-clause-goes g c = λ first start begun taken since p.
+    let run = run_from g.W.SwapStore first c.args.tells c.args.limit start begun in
     let out = g.K.Sink.written c.feed_piece.new.out in
     let now : Stand = stand g.W.SwapStore c.feed_piece.new.kernel (text out c.feed_piece.new.held.items) in
     let P : List ℕ → Type 0 = λ held. HasPlayed run taken c.args.reader.now (stand g.W.SwapStore c.args.kernel.now (text (g.K.Sink.written c.args.out.now) held)) in
     let q : P c.new-held.result.items = subst P (sym c.new-held.ensures) p in
-    c.put_before.ensures.fails run (taken ++ c.args.piece.now) false now refl (c.in-Err.ensures.goes start begun taken q)
+    held_put_before run now out (g.K.Sink.written c.put_before.new.out) c.feed_piece.new.held.items (taken ++ c.args.piece.now) false _ _ refl c.put_before.ensures.puts
+    (c.in-Err.ensures.goes first start begun taken since q)

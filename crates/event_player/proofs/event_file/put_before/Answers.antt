@@ -1,20 +1,25 @@
-use Rattle.std.proofs.Common.{subst}
+use Rattle.std.proofs.Common.{refl, sym, subst}
 use Rattle.event_player.specs.declared.events.PlayFault.{PlayFault}
-use Rattle.event_player.specs.Playing.{FailsSo}
-use Rattle.event_player.proofs.Playing.EndingLemmas.{none_of_it_put, steps_before_put, steps_before_unput}
+use Rattle.event_player.specs.declared.events.PlayFault.TheVariants.{Swap, Write}
+use Rattle.event_player.specs.Gathering.{PutsBefore, text}
 use Rattle.event_player.proofs.event_file.put_before.Goals as goal
 
-pub returns-in-Write-clause-fails : goal.returns-in-Write-clause-fails
-returns-in-Write-clause-fails g c = λ run taken finished now same fails.
-    let F : PlayFault → Type 0 = λ fault. FailsSo run taken finished now fault in
-    none_of_it_put run now (g.K.Sink.written c.args.out.now) c.args.held.now.items taken finished same (subst F c.in-Write.is fails)
+pub returns-in-Write-clause-puts : goal.returns-in-Write-clause-puts
+returns-in-Write-clause-puts g c =
+    let out = g.K.Sink.written c.args.out.now in
+    let P : PlayFault → Type 0 = λ fault. PutsBefore (text out c.args.held.now.items) out fault Write in
+    subst P (sym c.in-Write.is) refl
 
-pub returns-in-Ok-clause-fails : goal.returns-in-Ok-clause-fails
-returns-in-Ok-clause-fails g c = λ run taken finished now same fails.
-    let F : PlayFault → Type 0 = λ fault. FailsSo run taken finished now fault in
-    steps_before_put run now (g.K.Sink.written c.args.out.now) (g.K.Sink.written c.put_held.new.out) c.args.held.now.items taken finished same c.in-Ok.ensures.put (subst F c.in-Swap.is fails)
+pub returns-in-Ok-clause-puts : goal.returns-in-Ok-clause-puts
+returns-in-Ok-clause-puts g c =
+    let out = g.K.Sink.written c.args.out.now in
+    let after = g.K.Sink.written c.put_held.new.out in
+    let P : PlayFault → Type 0 = λ fault. PutsBefore (text out c.args.held.now.items) after fault Swap in
+    subst P (sym c.in-Swap.is) c.in-Ok.ensures.put
 
-pub returns-in-Err-clause-fails : goal.returns-in-Err-clause-fails
-returns-in-Err-clause-fails g c = λ run taken finished now same fails.
-    let F : PlayFault → Type 0 = λ fault. FailsSo run taken finished now fault in
-    steps_before_unput run now (g.K.Sink.written c.args.out.now) (g.K.Sink.written c.put_held.new.out) c.args.held.now.items taken finished same c.in-Err.ensures.front (subst F c.in-Swap.is fails)
+pub returns-in-Err-clause-puts : goal.returns-in-Err-clause-puts
+returns-in-Err-clause-puts g c =
+    let out = g.K.Sink.written c.args.out.now in
+    let after = g.K.Sink.written c.put_held.new.out in
+    let P : PlayFault → Type 0 = λ fault. PutsBefore (text out c.args.held.now.items) after fault Write in
+    subst P (sym c.in-Swap.is) c.in-Err.ensures.front

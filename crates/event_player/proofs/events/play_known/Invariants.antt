@@ -2,6 +2,7 @@ use Rattle.std.proofs.Common.{◌≡◌, ◌≤◌, ◌+◌, List, ℕ, length}
 use Rattle.machine_model.specs.State.Machine.{Machine}
 use Rattle.xk_kernel.specs.Sound.{IsSound, IsUsable, Keeps}
 use Rattle.xk_kernel.specs.State.{machine_of}
+use Rattle.xk_kernel.specs.declared.kernel.Kernel.{Kernel}
 use Rattle.event_player.specs.Playing.{HasPlayed, run_from}
 use Rattle.event_player.specs.Standing.{stand}
 use Rattle.event_player.specs.Gathering.{Text, text}
@@ -10,9 +11,9 @@ use Rattle.event_player.proofs.events.play_known.Given as goal
 -- What was played before the call was played on.
 abbrev pub invariant-answers : goal.invariant-answers
 invariant-answers g l = record {
-  goes : (start : Machine) (begun : Text) (taken : List ℕ)
-      → HasPlayed (run_from l.tells l.limit start begun) taken l.fn.reader (stand g.W.SwapStore l.fn.kernel (text (g.K.Sink.written l.fn.out) l.fn.held.items))
-      → HasPlayed (run_from l.tells l.limit start begun) taken l.reader (stand g.W.SwapStore l.kernel (text (g.K.Sink.written l.out) l.held.items));
+  goes : (first : Kernel g.row.W.Denot) (start : Machine) (begun : Text) (taken : List ℕ) → Keeps g.W.SwapStore first l.fn.kernel
+      → HasPlayed (run_from g.W.SwapStore first l.tells l.limit start begun) taken l.fn.reader (stand g.W.SwapStore l.fn.kernel (text (g.K.Sink.written l.fn.out) l.fn.held.items))
+      → HasPlayed (run_from g.W.SwapStore first l.tells l.limit start begun) taken l.reader (stand g.W.SwapStore l.kernel (text (g.K.Sink.written l.out) l.held.items));
   sound : IsSound g.W.SwapStore l.kernel;
   usable : IsUsable l.kernel;
   keeps : Keeps g.W.SwapStore l.fn.kernel l.kernel;

@@ -1,5 +1,6 @@
 use Rattle.std.proofs.Common.{◌≤◌, Result}
 use Rattle.xk_base.specs.declared.events.Event.TheVariants.{Tick}
+use Rattle.xk_kernel.specs.Moments.{Stood}
 use Rattle.xk_kernel.specs.Sound.{IsSound, IsUsable, Keeps}
 use Rattle.xk_kernel.specs.State.{machine_of}
 use Rattle.event_player.specs.declared.ending.Ending.{Ending}
@@ -13,8 +14,8 @@ use Rattle.event_player.proofs.events.play_tick.Given as goal
 abbrev pub invariant-runs : goal.invariant-runs
 invariant-runs g l = record {
   plays : (new : Stand) (result : Result Ending PlayFault)
-      → Plays l.tells (Tick l.left) l.limit (stand g.W.SwapStore l.kernel (text (g.K.Sink.written l.out) l.held.items)) new result
-      → Plays l.tells (Tick l.count) l.limit (stand g.W.SwapStore l.fn.kernel (text (g.K.Sink.written l.fn.out) l.fn.held.items)) new result;
+      → Plays (Stood g.W.SwapStore l.kernel) l.tells (Tick l.left) l.limit (stand g.W.SwapStore l.kernel (text (g.K.Sink.written l.out) l.held.items)) new result
+      → Plays (Stood g.W.SwapStore l.fn.kernel) l.tells (Tick l.count) l.limit (stand g.W.SwapStore l.fn.kernel (text (g.K.Sink.written l.fn.out) l.fn.held.items)) new result;
   later : g.K.Sink.faults l.fn.out ≤ g.K.Sink.faults l.out;
   sound : IsSound g.W.SwapStore l.kernel;
   usable : IsUsable l.kernel;
