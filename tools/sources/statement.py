@@ -17,10 +17,8 @@ SAID = {
     "records_of": "the records of moments, in order",
     "LoanSpan": "the lifetime of the loan of one number over a run",
     "Matched": "the invariant of the machine",
-    "IsSound": "the kernel is sound",
-    "IsTied": "RAM and slots stand for the ledger",
-    "Kernel": "a kernel, with its memory",
     "Number": "the number of a message",
+    "WasInRam": "a sound kernel for each state of the task's run, the last one with this store",
     **dict.fromkeys(("Command", "Plays", "Suspends", "Resumes"), "a command; Plays is trace, run or ledger"),
 }
 

@@ -28,6 +28,8 @@ use Rattle.event_player.specs.Rooms.{ComesFull, Room}
 use Rattle.event_player.proofs.Playing.FullLemmas.{events_full_front, events_full_later, first_event_full}
 use Rattle.demo_load.specs.Events.{first_events, load_history, load_machine, tick_at}
 use Rattle.event_player.proofs.Playing.HistoryLemmas.{history_after, history_one}
+use Rattle.event_player.proofs.Playing.StoodLemmas.{through_event, through_events, through_no_events}
+use Rattle.xk_kernel.specs.Moments.{Throughout}
 
 -- ---- a step tells little
 
@@ -137,6 +139,20 @@ history_unmet (suc k) limit m room =
 pub load_meets_no_limit : (clients : ℕ) → clients ≤ 31 → (load_history clients).met ≡ false
 unfolding start
 load_meets_no_limit clients few = (history_unmet (1000 * clients) DEFAULT_STEPS (load_machine clients) (omega arith)).0
+
+-- ---- for each state there stood a kernel
+
+pub none_stood : (P : Machine → Type 0) (limit : ℕ) (m : Machine) → P m → Throughout P m (moments_of (first_events 0) limit m)
+unfolding first_events
+none_stood P limit m here = through_no_events P limit m here
+
+pub more_stood : (P : Machine → Type 0) (k limit : ℕ) (start m : Machine) → (history (first_events k) limit start).met ≡ false
+    → (history (first_events k) limit start).machine ≡ m → Throughout P start (moments_of (first_events k) limit start)
+    → Throughout P m (event_moments (Tick (tick_at k)) limit m) → Throughout P start (moments_of (first_events (k + 1)) limit start)
+more_stood P k limit start m unmet there first second =
+    let E : List Event → Type 0 = λ events. Throughout P start (moments_of events limit start) in
+    subst E (sym (events_more k))
+    (through_events P limit start m (first_events k) (Tick (tick_at k) ∷ []) unmet there first (through_event P limit m (Tick (tick_at k)) second))
 
 -- ---- a state with more pages than there are frames for
 

@@ -8,6 +8,7 @@ ghost use Rattle.xk_base.specs.declared.limits.TheConstants.{DEFAULT_STEPS};
 ghost use Rattle.xk_base.specs.declared.records.Rec.{Rec as Record};
 ghost use Rattle.machine_laws.specs.History.{history, play};
 ghost use Rattle.machine_laws.specs.HistoryMoments.{event_moments, moments_of};
+ghost use Rattle.xk_kernel.specs.Moments.{Stood, Throughout};
 ghost use Rattle.xk_kernel.specs.Sound.{IsSound, IsUsable, Keeps};
 ghost use Rattle.xk_kernel.specs.State.{machine_of};
 ghost use Rattle.demo_load.specs.Events.{load_events, most_steps, tick_at};
@@ -43,6 +44,8 @@ fn play_tick<W: SwapStore>(
         OnOk result ((before : List Record) → totals.old ≡ totals_of before → totals.new ≡ totals_of (before ++ tick.records)) }
     ensures machine { let tick = play (Tick count) DEFAULT_STEPS (machine_of W.held kernel.old) in
         OnOk result (machine_of W.held kernel.new ≡ tick.machine) }
+    ensures stood { let start = machine_of W.held kernel.old in
+        OnOk result (Throughout (Stood W.SwapStore kernel.old) start (event_moments (Tick count) DEFAULT_STEPS start)) }
     ensures within { OnOk result (IsWithin (machine_of W.held kernel.new).steps totals.new) }
     ensures sound { IsSound W.SwapStore kernel.new }
     ensures usable { OnOk result (IsUsable kernel.new) }
@@ -76,7 +79,13 @@ pub fn play_load<W: SwapStore>(kernel: &mut Kernel<W>, clients: u32) -> Result<T
     requires few { clients ≤ CLIENT_LIMIT }
     ensures counted { let played = history (load_events clients) DEFAULT_STEPS (machine_of W.held kernel.old) in
         IfOk result (λ totals. totals ≡ totals_of played.records) }
+    ensures machine { let played = history (load_events clients) DEFAULT_STEPS (machine_of W.held kernel.old) in
+        OnOk result (machine_of W.held kernel.new ≡ played.machine) }
+    // For each of its states there was a kernel.
+    ensures stood { let start = machine_of W.held kernel.old in
+        OnOk result (Throughout (Stood W.SwapStore kernel.old) start (moments_of (load_events clients) DEFAULT_STEPS start)) }
     ensures sound { IsSound W.SwapStore kernel.new }
+    ensures usable { OnOk result (IsUsable kernel.new) }
     ensures keeps { Keeps W.SwapStore kernel.old kernel.new }
     ensures full { let start = machine_of W.held kernel.old in
         OnErr result (ComesFull (room_in kernel.old) start (moments_of (load_events clients) DEFAULT_STEPS start)) }

@@ -1,3 +1,4 @@
 pub mod CommandLemmas
 pub mod LawLemmas
+pub mod RamLemmas
 pub mod RunLemmas

@@ -4,12 +4,10 @@ use Rattle.machine_laws.specs.Records.{records_of}
 use Rattle.machine_model.specs.Runs.LoanSpan.{LoanSpan}
 use Rattle.machine_model.specs.Runs.Matched.{Matched}
 use Rattle.machine_model.specs.Runs.Moments.{state_at}
-use Rattle.vm_memory.specs.Tie.{IsTied}
 use Rattle.xk_base.specs.declared.ids.Number.{Number}
-use Rattle.xk_kernel.specs.Sound.{IsSound}
-use Rattle.xk_kernel.specs.declared.kernel.Kernel.{Kernel}
 use Rattle.xk_ports.specs.Told.{Grows}
 use Rattle.xk_ports.specs.declared.store.SwapStore.{Ghosts as SwapStore}
+use Rattle.xous_program.specs.Outcome.InRam.{WasInRam}
 use Rattle.xous_program.specs.Outcome.Prefixes.{IsKnown, IsReadOut, Opened, ReadsNoEvents, TellsNoEvents, WritesLines, WritesProperPrefix, WritesSteps}
 use Rattle.xous_program.specs.Outcome.Said.{Gives, HasFault, IsSaved, Run, Running, Task, history_in, moments_in, said}
 use Rattle.xous_program.specs.Outcome.Sides.{Call, HostRose, IsUnwritten, OutRose, StoreRose}
@@ -48,18 +46,20 @@ pub record IsLawful (run : Run) : Type 0 where
   pub records : (history_in run).records ≡ records_of run.booted.machine (moments_in run)
   pub last : (history_in run).machine ≡ state_at run.booted.machine (moments_in run) (length (moments_in run))
 
--- TIED: the entries in the bytes of RAM of a sound kernel stand for the ledger of its machine.
-abbrev pub AreTied : {W : Type 0} → SwapStore W → Type 0
-AreTied {W} S = (kernel : Kernel W) → IsSound S kernel → IsTied S.held kernel.mem
+-- IN RAM: for each state of the run there was a kernel, its entries in the bytes of RAM stand for the ledger of that state, and the last of
+-- these kernels holds the store that is handed back.
+abbrev pub IsInRam : {W : Type 0} → SwapStore W → Command → Call → W → Type 0
+IsInRam S command call store =
+    IsKnown command call → IsComplete command call → (task : Task) × Gives call.host.files command task × WasInRam S task store
 
 abbrev pub IsAnswered : Command → Call → Type 0
 IsAnswered command call =
     IsKnown command call → IsComplete command call ⊎ IsInterrupted command call call.status ⊎ IsRejected command call call.status
 
-abbrev pub Headline : {W : Type 0} → SwapStore W → Option Command → Call → Type 0
-Headline S None call = (call.status ≡ Usage) × IsUnwritten call
-Headline S (Some command) call =
-    IsAnswered command call × ((run : Run) → Gives call.host.files command (Running run) → IsLawful run) × AreTied S
+abbrev pub Headline : {W : Type 0} → SwapStore W → Option Command → Call → W → Type 0
+Headline S None call store = (call.status ≡ Usage) × IsUnwritten call
+Headline S (Some command) call store =
+    IsAnswered command call × ((run : Run) → Gives call.host.files command (Running run) → IsLawful run) × IsInRam S command call store
 
 abbrev pub SwappingIsInvisible : Type 0
 SwappingIsInvisible = (two : TwoSplits) → IsOneCapacity two → IsComplete (Plays two.play) two.call → IsComplete (Plays two.twin) two.answer

@@ -12,6 +12,7 @@ pub mod Demo
 pub mod Ends
 pub mod Said
 pub mod Prefixes
+pub mod InRam
 pub mod Splits
 pub mod SplitCalls
 pub mod SuspendedCalls

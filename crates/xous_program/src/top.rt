@@ -2,6 +2,7 @@
 
 ghost use Rattle.std.specs.Prelude.{◌≤◌, IfSome};
 ghost use Rattle.xous_program.specs.Outcome.Ends.{Ends};
+ghost use Rattle.xous_program.specs.Outcome.InRam.{EndsInRam};
 ghost use Rattle.xous_program.specs.Outcome.Said.{IsInLimits};
 ghost use Rattle.xous_program.specs.Outcome.Sides.{call_of, host_side, store_side};
 ghost use Rattle.program_status.specs.Notes.{Notes, sink_side};
@@ -32,6 +33,8 @@ fn run_words<H: Host, K: Sink, W: SwapStore>(
 ) -> Ended<W>
     ensures ends { let call = call_of (host_side H.Host host.old host.new) (sink_side K.Sink out.old out.new)
         (store_side W.SwapStore store result.store) result.status in Ends (command_of words.now) call }
+    ensures in_ram { let call = call_of (host_side H.Host host.old host.new) (sink_side K.Sink out.old out.new)
+        (store_side W.SwapStore store result.store) result.status in EndsInRam W.SwapStore (command_of words.now) call result.store }
     ensures limits { IfSome (command_of words.now) IsInLimits }
     ensures store { W.faults store ≤ W.faults result.store }
     ensures host { H.faults host.old ≤ H.faults host.new }
@@ -71,7 +74,7 @@ pub fn xous_main<H: Host, K: Sink, N: Sink, W: SwapStore>(
 ) -> Ended<W>
     ensures ends { let call = call_of (host_side H.Host host.old host.new) (sink_side K.Sink out.old out.new)
         (store_side W.SwapStore store result.store) result.status in
-        Ends (command_of words.now) call × Headline W.SwapStore (command_of words.now) call }
+        Ends (command_of words.now) call × Headline W.SwapStore (command_of words.now) call result.store }
     ensures noted { Notes (sink_side N.Sink notes.old notes.new) (note_of result.status) }
     ensures store { W.faults store ≤ W.faults result.store }
     ensures host { H.faults host.old ≤ H.faults host.new }

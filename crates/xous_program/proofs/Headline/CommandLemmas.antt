@@ -3,7 +3,7 @@ use Rattle.std.proofs.Common.{◌≡◌, ◌≤◌, inl, inr, ℕ, Bool, true, f
 use Rattle.std.specs.Prelude.{if◌then◌else◌}
 use Rattle.boot_plan.specs.declared.plans.BootPlan.{BootPlan}
 use Rattle.demo_load.proofs.LoadHistoryLemmas.{load_meets_no_limit}
-use Rattle.demo_load.specs.Events.{load_events, load_machine, load_plan}
+use Rattle.demo_load.specs.Events.{load_machine, load_plan}
 use Rattle.demo_load.specs.declared.TheConstants.{CLIENT_LIMIT}
 use Rattle.event_player.specs.History.{History, run_of}
 use Rattle.event_player.specs.declared.ending.Ending.{Ending}
@@ -24,7 +24,7 @@ use Rattle.xous_program.specs.Outcome.Images.{Image, IsPlanned, plan_in}
 use Rattle.xous_program.specs.Outcome.Plays.{EndsPlay, HasCause}
 use Rattle.xous_program.specs.Outcome.Prefixes.{IsKnown, IsReadOut, Opened}
 use Rattle.xous_program.specs.Outcome.Resumes.{EndsResume, resumed_on, traced}
-use Rattle.xous_program.specs.Outcome.Said.{GivesRun, IsInLimits, Planning, Converting, Run, Running, history_in, status_of}
+use Rattle.xous_program.specs.Outcome.Said.{GivesRun, IsInLimits, Planning, Converting, Running, history_in, load_run, status_of}
 use Rattle.xous_program.specs.Outcome.Sides.{Call, HostRose, IsUnwritten, OutRose}
 use Rattle.xous_program.specs.Outcome.Starts.{Booted, booted_of, room_of}
 use Rattle.xous_program.specs.Outcome.States.{RefusesState, StateFile, room_from}
@@ -41,7 +41,7 @@ grows_nothing {X} before after same = let P : Option (List X) → Type 0 = λ no
 
 -- ---- `trace`, `run` and `ledger`
 
-starts_so : (play : Play) (call : Call) (machine : Machine) (image : Image call.host.files play.image play.slots machine)
+pub starts_so : (play : Play) (call : Call) (machine : Machine) (image : Image call.host.files play.image play.slots machine)
     → PlaysSo (Plays play) call play (booted_of (plan_in image) machine)
 starts_so play call machine image = record {
   starts = λ input. record { machine = machine; image = image; booted = refl; limit = refl };
@@ -74,7 +74,7 @@ play_three play call (inr (inr (inr played))) known =
 
 -- ---- `suspend`
 
-suspends_so : (suspend : Suspend) (call : Call) (machine : Machine) (image : Image call.host.files suspend.image suspend.slots machine)
+pub suspends_so : (suspend : Suspend) (call : Call) (machine : Machine) (image : Image call.host.files suspend.image suspend.slots machine)
     → PlaysSo (Suspends suspend) call (silent suspend) (booted_of (plan_in image) machine)
 suspends_so suspend call machine image = record {
   starts = λ input. record { machine = machine; image = image; booted = refl; limit = refl };
@@ -176,7 +176,7 @@ unread_three resume call WriteFault refused unopened unwritten = absurd refused
 unread_three resume call (EventFault line) refused unopened unwritten = absurd refused
 unread_three resume call (StepLimit limit) refused unopened unwritten = absurd refused
 
-resumes_so : (resume : Resume) (call : Call) (machine : Machine) → StateFile call.host.files resume.state resume.slots machine
+pub resumes_so : (resume : Resume) (call : Call) (machine : Machine) → StateFile call.host.files resume.state resume.slots machine
     → PlaysSo (Resumes resume) call (traced resume machine) (resumed_on machine resume.slots)
 resumes_so resume call machine state = record {
   starts = λ input. record { machine = machine; state = state; booted = refl; limit = refl };
@@ -254,11 +254,7 @@ convert_three image call (inr converted) =
 
 -- ---- `demo`
 
--- the run of a load
-abbrev pub load_run : ℕ → Run
-load_run clients = run_over (booted_of (load_plan clients) (load_machine clients)) DEFAULT_STEPS (record { events = load_events clients; bad = None })
-
-load_given : (clients : ℕ) (call : Call) → GivesRun call.host.files (Demo clients) (load_run clients)
+pub load_given : (clients : ℕ) (call : Call) → GivesRun call.host.files (Demo clients) (load_run clients)
 load_given clients call = record { starts = record { booted = refl; limit = refl }; events = refl }
 
 -- it doesn't meet the limit

@@ -11,15 +11,16 @@ use Rattle.machine_model.specs.Runs.Matched.{Matched}
 use Rattle.machine_model.specs.State.Machine.{Machine}
 use Rattle.loan_laws.proofs.Fates.CauseFateLemmas.{all_have_fates}
 use Rattle.loan_laws.proofs.Spans.RunSpanLemmas.{spans_hold}
-use Rattle.vm_memory.proofs.Changing.SoundMemoryLemmas.{sound-tied}
 use Rattle.xk_base.specs.declared.limits.TheConstants.{SLOT_LIMIT}
 use Rattle.xk_ports.specs.declared.store.SwapStore.{Ghosts as SwapStore}
 use Rattle.xous_program.specs.Headline.{Headline, IsLawful}
 use Rattle.xous_program.specs.Outcome.Ends.{Ends}
+use Rattle.xous_program.specs.Outcome.InRam.{EndsInRam}
 use Rattle.xous_program.specs.Outcome.Said.{IsInLimits, Run, Starts, StartsOnImage, StartsOnLoad, StartsOnState, moments_in}
 use Rattle.xous_program.specs.Outcome.Sides.{Call, Told}
 use Rattle.xous_program.specs.Words.{Command, Plays, Checks, Converts, Demo, Suspends, Resumes, Play, Resume}
 use Rattle.xous_program.proofs.Headline.CommandLemmas.{command_three}
+use Rattle.xous_program.proofs.Headline.RamLemmas.{ends_in_ram}
 use Rattle.xous_program.proofs.Images.MatchedLemmas.{booted_matched}
 
 run_lawful : (run : Run) → Matched run.booted.machine → IsLawful run
@@ -60,10 +61,11 @@ started_matched file (Demo clients) run limits starts = load_matched clients run
 started_matched file (Checks check) run limits starts = absurd starts
 started_matched file (Converts image) run limits starts = absurd starts
 
-pub ends_headline : {W : Type 0} (S : SwapStore W) (command : Option Command) (call : Call) → IfSome command IsInLimits → Ends command call → Headline S command call
-ends_headline S None call limits ends = (ends.ended, ends.unwritten)
-ends_headline S (Some command) call limits ends = (
+pub ends_headline : {W : Type 0} (S : SwapStore W) (command : Option Command) (call : Call) (store : W) → IfSome command IsInLimits → Ends command call
+    → EndsInRam S command call store → Headline S command call store
+ends_headline S None call store limits ends in_ram = (ends.ended, ends.unwritten)
+ends_headline S (Some command) call store limits ends in_ram = (
   command_three command call limits ends,
   λ run given. run_lawful run (started_matched call.host.files command run limits given.starts),
-  λ kernel sound. sound-tied S kernel.mem sound.whole.mem,
+  ends_in_ram S command call store ends in_ram,
 )

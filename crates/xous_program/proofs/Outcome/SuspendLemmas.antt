@@ -88,7 +88,7 @@ nothing_told [] = refl
 nothing_told (rec ∷ records) = nothing_told records
 
 -- a sink on which nothing stands of a run wasn't touched
-pub untouched : (run : Run) (now : Stand) → run.tells ≡ Nothing → run.begun.held ≡ [] → StaysSilent run.tells run.begun now.text → now.text.out ≡ run.begun.out
+pub untouched : {W : Type 0} {S : SwapStore W} (run : Run S) (now : Stand) → run.tells ≡ Nothing → run.begun.held ≡ [] → StaysSilent run.tells run.begun now.text → now.text.out ≡ run.begun.out
 untouched run now nothing none stays = ap (λ (t : Text). t.out) (stays (ap is_silent nothing) none)
 
 -- ---- the last state
@@ -105,10 +105,10 @@ last_reserver limit events old start last is matched none there =
     subst IsReservedByThread (sym there) (history_reserved (input_of events).events limit start (subst Matched is matched) known)
 
 -- where a page is out at the end of the events, some state of the run had more pages than there are frames for
-pub full_where_out : (play : Play) (room : Room) (start : Machine) (call : Call) (begun : Text) (left : Option (List ℕ)) (now : Stand)
-    → IsLeftOf call.host.files play.events left → now.room ≡ room → PlaysOut (run_from play.tells play.limit start begun) left now Played
+pub full_where_out : {W : Type 0} (S : SwapStore W) (first : Kernel W) (play : Play) (room : Room) (start : Machine) (call : Call) (begun : Text) (left : Option (List ℕ)) (now : Stand)
+    → IsLeftOf call.host.files play.events left → now.room ≡ room → PlaysOut (run_from S first play.tells play.limit start begun) left now Played
     → now.near ≡ false → RanFull play room start call
-full_where_out play room start call begun left now of same plays out = record {
+full_where_out S first play room start call begun left now of same plays out = record {
   events = plays.bytes;
   is_file = told_file call.host.files play.events left plays.bytes of plays.file;
   full = go (plays.near refl);

@@ -15,7 +15,6 @@ use Rattle.program_status.specs.declared.status.Status.{Status}
 use Rattle.program_status.specs.declared.status.Status.TheVariants.{Done, Usage, ReadFault, WriteFault, ImageFault, EventFault, StepLimit, SwapFault, NoMemory}
 use Rattle.xous_program.specs.Finish.{EndsBooted, Finishes, Starts}
 use Rattle.event_player.specs.History.{History, MayEnd, run_of}
-use Rattle.xous_program.specs.Outcome.Ends.{Ends}
 use Rattle.xous_program.specs.Outcome.Plays.{AsksBoth, EndsPlay, HasCause, Ran, RanWholeLines, Tells}
 use Rattle.xous_program.specs.Outcome.Sides.{Call, HasFile, Prepares, StoreSide, Told}
 use Rattle.event_player.specs.Rooms.{Room}

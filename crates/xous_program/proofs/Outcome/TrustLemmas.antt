@@ -34,21 +34,21 @@ abbrev pub booted_on : {W : Type 0} → Machine → Kernel W → Booted
 booted_on start kernel = record { machine = start; room = room_in kernel; slots = (size kernel.mem).slots }
 
 -- .. and so it is with what the pages hold
-pub known_side : {W : Type 0} {S : SwapStore W} {old new : Kernel W} (run : Run) (after : Text) (input : Input) → Keeps S old new
+pub known_side : {W : Type 0} {S : SwapStore W} {old new : Kernel W} (run : Run S) (after : Text) (input : Input) → Keeps S old new
     → KnowsPages (store_side S (store_of old.mem) (store_of new.mem)) (booted_on run.start old) run.limit input.events → IsKnown run (stand S new after) input
 known_side run after input keeps (inl trusted) = inl (trusted_side keeps trusted)
 known_side {old = old} {new = new} run after input keeps (inr never) =
     inr (λ full. never (full_on (room_in old) (room_in new) run.start (moments_of input.events run.limit run.start) (room_stays keeps) full))
 
 -- what is known later was known before
-pub known_before : {W : Type 0} {S : SwapStore W} {old new : Kernel W} (run : Run) (before after : Text) (input : Input) → Keeps S old new
+pub known_before : {W : Type 0} {S : SwapStore W} {old new : Kernel W} (run : Run S) (before after : Text) (input : Input) → Keeps S old new
     → IsKnown run (stand S new after) input → IsKnown run (stand S old before) input
 known_before run before after input keeps (inl trusted) = inl (sym (trust_stays keeps) ∙ trusted)
 known_before {old = old} {new = new} run before after input keeps (inr never) =
     inr (λ full. never (full_on (room_in new) (room_in old) run.start (moments_of input.events run.limit run.start) (sym (room_stays keeps)) full))
 
 -- a run stands at its start
-pub known_start : (run : Run) (now : Stand) (input : Input) → Begins run.start now → IsKnown run now input → now.machine ≡ run.start
+pub known_start : {W : Type 0} {S : SwapStore W} (run : Run S) (now : Stand) (input : Input) → Begins run.start now → IsKnown run now input → now.machine ≡ run.start
 known_start run now input begins (inl trusted) = begins.trusted trusted
 known_start run now input begins (inr never) = go begins.near
   where
@@ -57,7 +57,7 @@ known_start run now input begins (inr never) = go begins.near
     go (inr full) = absurd (never (full_start now.room run.start (moments_of input.events run.limit run.start) full))
 
 -- the bytes of a kernel's pages are known, where none is out but in a full run
-pub known_means : {W : Type 0} (S : SwapStore W) (k : Kernel W) (run : Run) (text : Text) (input : Input)
+pub known_means : {W : Type 0} (S : SwapStore W) (k : Kernel W) (run : Run S) (text : Text) (input : Input)
     → (none_out k.mem ≡ true) ⊎ ComesFull (room_in k) run.start (moments_of input.events run.limit run.start)
     → IsKnown run (stand S k text) input → MeansBytes S k.mem
 known_means S k run text input near (inl trusted) = trusted_means S k trusted

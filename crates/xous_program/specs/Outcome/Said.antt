@@ -53,6 +53,14 @@ moments_in run = moments_of run.input.events run.limit run.booted.machine
 abbrev pub as_far_as : ℕ → Run → Run
 as_far_as steps run = record run { limit = steps }
 
+-- the run of a load
+abbrev pub load_run : ℕ → Run
+load_run clients = record {
+  booted = booted_of (load_plan clients) (load_machine clients);
+  limit = DEFAULT_STEPS;
+  input = record { events = load_events clients; bad = None };
+}
+
 -- the image boots a machine on which the run starts
 pub record StartsOnImage (file : Told) (play : Play) (run : Run) : Type 0 where
   pub machine : Machine

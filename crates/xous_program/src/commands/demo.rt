@@ -11,6 +11,8 @@ ghost use Rattle.demo_load.specs.Events.{load_machine, load_plan};
 ghost use Rattle.demo_load.specs.Image.{load_image};
 ghost use Rattle.demo_load.specs.Totals.{demo_line};
 ghost use Rattle.xous_program.specs.Outcome.Demo.{Demonstrates};
+ghost use Rattle.xous_program.specs.Outcome.InRam.{HadKernels};
+ghost use Rattle.xous_program.specs.Outcome.Said.{load_run};
 ghost use Rattle.xous_program.specs.Outcome.Sides.{Prepares, store_side};
 ghost use Rattle.program_status.specs.Notes.{sink_side};
 ghost use Rattle.xous_program.specs.Outcome.Starts.{Stops, room_of};
@@ -100,6 +102,7 @@ pub fn play_demo<K: Sink, W: SwapStore>(
 ) -> Ended<W>
     ensures told { Demonstrates demo.clients (sink_side K.Sink out.old out.new)
         (store_side W.SwapStore store result.store) result.status }
+    ensures in_ram { result.status ≡ Done → HadKernels W.SwapStore (load_run demo.clients) result.store }
     ensures cause { result.status ≡ WriteFault → Rose (K.faults out.old) (K.faults out.new) }
     ensures store { W.faults store ≤ W.faults result.store }
     ensures never_falls { K.faults out.old ≤ K.faults out.new }

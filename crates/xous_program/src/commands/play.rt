@@ -8,12 +8,13 @@ ghost use Rattle.xk_kernel.specs.State.{machine_of};
 ghost use Rattle.xk_ports.specs.declared.host.FileSlot.TheVariants.{First};
 ghost use Rattle.xous_program.specs.Finish.{EndsBooted, Finishes};
 ghost use Rattle.event_player.specs.Gathering.{put};
+ghost use Rattle.xous_program.specs.Outcome.InRam.{PlaysInRam, RunsInRam};
 ghost use Rattle.xous_program.specs.Outcome.Plays.{EndsPlay};
 ghost use Rattle.xous_program.specs.Outcome.Sides.{call_of, host_side, store_side};
 ghost use Rattle.program_status.specs.Notes.{sink_side};
 ghost use Rattle.xous_program.specs.Outcome.Starts.{Booted};
 ghost use Rattle.event_player.specs.Standing.{Begins, room_in, stand};
-ghost use Rattle.xous_program.specs.Words.{play_in};
+ghost use Rattle.xous_program.specs.Words.{Plays, play_in};
 
 use crate::commands::booting::boot_image;
 use crate::commands::command::PlayWords;
@@ -64,6 +65,14 @@ pub fn play_events<H: Host, K: Sink, W: SwapStore>(
         } in let call = call_of (host_side H.Host host.old host.new) (sink_side K.Sink out.old out.new)
         (store_side W.SwapStore (store_of kernel.old.mem) (store_of kernel.new.mem)) result in
         EndsBooted (play_in play.entry) booted call }
+    ensures in_ram { (start : Machine) → Begins start (stand W.SwapStore kernel.old (put (K.written out.old))) →
+        let booted : Booted = record {
+          machine = start;
+          room = room_in kernel.old;
+          slots = (size kernel.old.mem).slots;
+        } in let store = store_of kernel.new.mem in
+        PlaysInRam W.SwapStore (play_in play.entry) booted (H.file host.old)
+        (store_side W.SwapStore (store_of kernel.old.mem) store) store result }
     ensures sound { IsSound W.SwapStore kernel.new }
     ensures keeps { Keeps W.SwapStore kernel.old kernel.new }
     ensures first { H.left host.new First ≡ H.left host.old First }
@@ -91,6 +100,9 @@ pub fn play_image<H: Host, K: Sink, W: SwapStore>(
 ) -> Ended<W>
     ensures ends { let call = call_of (host_side H.Host host.old host.new) (sink_side K.Sink out.old out.new)
         (store_side W.SwapStore store result.store) result.status in EndsPlay (play_in play.entry) call }
+    ensures in_ram { let call = call_of (host_side H.Host host.old host.new) (sink_side K.Sink out.old out.new)
+        (store_side W.SwapStore store result.store) result.status in
+        RunsInRam W.SwapStore (Plays (play_in play.entry)) call result.store }
     ensures store { W.faults store ≤ W.faults result.store }
     ensures host { H.faults host.old ≤ H.faults host.new }
     ensures out { K.faults out.old ≤ K.faults out.new }

@@ -1,10 +1,11 @@
 //! `resume`: the events of a file are played on from a state that was written.
 
 ghost use Rattle.std.specs.Prelude.{◌≤◌};
+ghost use Rattle.xous_program.specs.Outcome.InRam.{RunsInRam};
 ghost use Rattle.xous_program.specs.Outcome.Resumes.{EndsResume};
 ghost use Rattle.xous_program.specs.Outcome.Sides.{call_of, host_side, store_side};
 ghost use Rattle.program_status.specs.Notes.{sink_side};
-ghost use Rattle.xous_program.specs.Words.{resume_in};
+ghost use Rattle.xous_program.specs.Words.{Resumes, resume_in};
 
 use crate::commands::command::{PlayWords, ResumeWords};
 use crate::commands::play::play_events;
@@ -25,6 +26,9 @@ pub fn resume_run<H: Host, K: Sink, W: SwapStore>(
 ) -> Ended<W>
     ensures ends { let call = call_of (host_side H.Host host.old host.new) (sink_side K.Sink out.old out.new)
         (store_side W.SwapStore store result.store) result.status in EndsResume (resume_in resume.entry) call }
+    ensures in_ram { let call = call_of (host_side H.Host host.old host.new) (sink_side K.Sink out.old out.new)
+        (store_side W.SwapStore store result.store) result.status in
+        RunsInRam W.SwapStore (Resumes (resume_in resume.entry)) call result.store }
     ensures store { W.faults store ≤ W.faults result.store }
     ensures host { H.faults host.old ≤ H.faults host.new }
     ensures out { K.faults out.old ≤ K.faults out.new }

@@ -11,6 +11,7 @@ ghost use Rattle.xk_kernel.specs.State.{machine_of};
 ghost use Rattle.xk_ports.specs.declared.host.FileSlot.TheVariants.{First};
 ghost use Rattle.xous_program.specs.Finish.{EndsSilently, HasSaveCause, SavesState, Starts};
 ghost use Rattle.event_player.specs.Gathering.{Text, put};
+ghost use Rattle.xous_program.specs.Outcome.InRam.{EndsRun, PlaysInRam, RunsInRam};
 ghost use Rattle.xous_program.specs.Outcome.Plays.{EndsRefused, EndsUnstarted};
 ghost use Rattle.xous_program.specs.Outcome.Sides.{call_of, host_side, store_side};
 ghost use Rattle.program_status.specs.Notes.{SinkSide, sink_side};
@@ -19,7 +20,7 @@ ghost use Rattle.xous_program.specs.Outcome.Suspends.{EndsSuspend, silent};
 ghost use Rattle.host_io.specs.Reading.{Asked, IsTold};
 ghost use Rattle.machine_laws.specs.Reserved.{IsReservedByThread};
 ghost use Rattle.event_player.specs.Standing.{Begins, room_in, stand};
-ghost use Rattle.xous_program.specs.Words.{suspend_in};
+ghost use Rattle.xous_program.specs.Words.{Suspends, suspend_in};
 
 use crate::commands::booting::{plan_image, start_run};
 use crate::commands::command::SuspendWords;
@@ -85,6 +86,8 @@ fn save_state<K: Sink, W: SwapStore>(
     requires usable { IsUsable kernel.old }
     requires within { (machine_of W.held kernel.old).steps ≤ STEP_LIMIT }
     requires room { let m = machine_of W.held kernel.old in room_for m.processes m.capacity ≤ sheet.old.room }
+    ensures stays { EndsRun result → IsUsable kernel.new
+        × (MeansBytes W.SwapStore kernel.old.mem → machine_of W.held kernel.new ≡ machine_of W.held kernel.old) }
     ensures saved { MeansBytes W.SwapStore kernel.old.mem → IsReservedByThread (machine_of W.held kernel.old)
         → SavesState (machine_of W.held kernel.old) (sink_side K.Sink out.old out.new) result }
     ensures cause { HasSaveCause (none_out kernel.old.mem) (sink_side K.Sink out.old out.new)
@@ -123,6 +126,14 @@ fn suspend_events<H: Host, K: Sink, W: SwapStore>(
         } in let call = call_of (host_side H.Host host.old host.new) (sink_side K.Sink out.old out.new)
         (store_side W.SwapStore (store_of kernel.old.mem) (store_of kernel.new.mem)) result in
         EndsSilently (suspend_in suspend.entry) booted call }
+    ensures in_ram { (start : Machine) → Begins start (stand W.SwapStore kernel.old (put (K.written out.old))) →
+        let booted : Booted = record {
+          machine = start;
+          room = room_in kernel.old;
+          slots = (size kernel.old.mem).slots;
+        } in let store = store_of kernel.new.mem in
+        PlaysInRam W.SwapStore (silent (suspend_in suspend.entry)) booted (H.file host.old)
+        (store_side W.SwapStore (store_of kernel.old.mem) store) store result }
     ensures sound { IsSound W.SwapStore kernel.new }
     ensures keeps { Keeps W.SwapStore kernel.old kernel.new }
     ensures first { H.left host.new First ≡ H.left host.old First }
@@ -152,6 +163,9 @@ pub fn suspend_run<H: Host, K: Sink, W: SwapStore>(
 ) -> Ended<W>
     ensures ends { let call = call_of (host_side H.Host host.old host.new) (sink_side K.Sink out.old out.new)
         (store_side W.SwapStore store result.store) result.status in EndsSuspend (suspend_in suspend.entry) call }
+    ensures in_ram { let call = call_of (host_side H.Host host.old host.new) (sink_side K.Sink out.old out.new)
+        (store_side W.SwapStore store result.store) result.status in
+        RunsInRam W.SwapStore (Suspends (suspend_in suspend.entry)) call result.store }
     ensures store { W.faults store ≤ W.faults result.store }
     ensures host { H.faults host.old ≤ H.faults host.new }
     ensures out { K.faults out.old ≤ K.faults out.new }

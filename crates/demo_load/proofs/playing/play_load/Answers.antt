@@ -4,12 +4,15 @@ use Rattle.machine_model.specs.State.Machine.{Machine}
 use Rattle.machine_model.specs.Stepping.Events.{nothing}
 use Rattle.xk_base.specs.declared.limits.TheConstants.{DEFAULT_STEPS}
 use Rattle.machine_laws.specs.History.{History, behind, history, play, reached}
+use Rattle.machine_laws.specs.HistoryMoments.{event_moments, moments_of}
+use Rattle.xk_kernel.specs.Moments.{Stood, Throughout}
 use Rattle.xk_kernel.specs.State.{machine_of}
 use Rattle.demo_load.specs.Events.{first_events, tick_at}
 use Rattle.demo_load.specs.Totals.{IsWithin, totals_of}
 use Rattle.event_player.proofs.Playing.KeptLemmas.{kept_after, kept_same}
-use Rattle.demo_load.proofs.LoadHistoryLemmas.{events_none, few_ticks, history_more, load_full, tick_unmet}
+use Rattle.demo_load.proofs.LoadHistoryLemmas.{events_none, few_ticks, history_more, load_full, more_stood, none_stood, tick_unmet}
 use Rattle.event_player.proofs.Playing.StandingLemmas.{room_stays, slots_stay}
+use Rattle.event_player.proofs.Playing.StoodLemmas.{stood_here, stood_since}
 use Rattle.event_player.specs.Standing.{room_in}
 use Rattle.demo_load.proofs.LoadPlayingLemmas.{event_counted}
 use Rattle.demo_load.proofs.LoadTotalsLemmas.{within_start}
@@ -22,6 +25,7 @@ events-init g c =
     record {
       unmet = ap (λ (h : History). h.met) none;
       there = ap (λ (h : History). h.machine) none;
+      stood = none_stood (Stood g.W.SwapStore c.args.kernel.now) DEFAULT_STEPS m (stood_here c.requires.sound c.requires.usable);
       counted = c.new-totals.ensures ∙ sym (ap (λ (h : History). totals_of h.records) none);
       steps = omega (arith, c.requires.start);
       within = subst (IsWithin m.steps) (sym c.new-totals.ensures) (within_start m.steps);
@@ -61,6 +65,10 @@ events-preserved g c =
     record {
       unmet = ap (λ (h : History). h.met) more;
       there = ap (λ (h : History). h.machine) more ∙ sym to;
+      stood = (let T : ℕ → Type 0 = λ n. Throughout (Stood g.W.SwapStore c.events.kernel) m (event_moments (Tick n) DEFAULT_STEPS m) in
+          let through : T (tick_at i) = subst T c.tick_at.ensures c.in-Ok.ensures.stood in
+          more_stood (Stood g.W.SwapStore c.args.kernel.now) i DEFAULT_STEPS start m c.events.invariant.unmet c.events.invariant.there c.events.invariant.stood
+          (λ j. stood_since c.events.invariant.keeps _ (through j)));
       counted = event_counted c.play_tick.new.totals before.records tick (history (first_events (i + 1)) DEFAULT_STEPS start) counted more;
       steps = omega (arith, steps, over.1, few, c.events.invariant.steps);
       within = c.in-Ok.ensures.within;
@@ -74,3 +82,10 @@ returns-in_default-clause-full g c =
     load_full (room_in c.args.kernel.now) (room_in c.events.kernel) c.events.i (1000 * c.args.clients) DEFAULT_STEPS c.tick_at.result
     (machine_of g.W.SwapStore.held c.args.kernel.now) (machine_of g.W.SwapStore.held c.events.kernel) (omega arith) c.events.invariant.unmet c.events.invariant.there
     (room_stays c.events.invariant.keeps) c.tick_at.ensures c.in_default.ensures.full
+
+pub returns-clause-stood : goal.returns-clause-stood
+returns-clause-stood g c =
+    let start : Machine = machine_of g.W.SwapStore.held c.args.kernel.now in
+    let all : c.events.i ≡ 1000 * c.args.clients = omega arith in
+    let T : ℕ → Type 0 = λ n. Throughout (Stood g.W.SwapStore c.args.kernel.now) start (moments_of (first_events n) DEFAULT_STEPS start) in
+    subst T all c.events.invariant.stood

@@ -1,4 +1,4 @@
-use Rattle.std.proofs.Common.{◌≡◌, ◌≢◌, ◌+◌, ◌-◌, ◌++◌, ℕ, sym, ap, ◌∙◌, subst, arith, List, length}
+use Rattle.std.proofs.Common.{◌≡◌, ◌≢◌, ◌+◌, ◌-◌, ◌++◌, ℕ, refl, sym, ap, ◌∙◌, subst, arith, List, length}
 use Rattle.xk_base.specs.declared.events.Event.TheVariants.{Tick}
 use Rattle.machine_model.specs.State.Machine.{Machine}
 use Rattle.machine_model.specs.State.Order.{turn}
@@ -6,6 +6,7 @@ use Rattle.machine_model.specs.Stepping.Step.{step}
 use Rattle.xk_base.specs.declared.limits.TheConstants.{DEFAULT_STEPS}
 use Rattle.xk_base.specs.declared.records.Rec.{Rec}
 use Rattle.machine_laws.specs.History.{History, behind, play}
+use Rattle.xk_kernel.specs.Moments.{Stood, Throughout}
 use Rattle.xk_kernel.specs.State.{machine_of}
 use Rattle.xk_kernel.specs.Stepping.{DoesStep}
 use Rattle.xk_kernel.specs.declared.kernel.Stepped.{Stepped}
@@ -19,6 +20,7 @@ use Rattle.event_player.specs.Standing.{room_in}
 use Rattle.event_player.proofs.Playing.FullLemmas.{step_full, step_on_full}
 use Rattle.event_player.proofs.Playing.StandingLemmas.{no_slots_none_out, no_slots_trusted, room_stays, slots_stay, trusted_knows}
 use Rattle.event_player.proofs.Playing.StepLemmas.{full_where_near}
+use Rattle.event_player.proofs.Playing.StoodLemmas.{idle_turn, over_moments, stood_here, stood_since, stood_there, through_step_to, through_turn}
 use Rattle.demo_load.proofs.LoadPlayingLemmas.{few_told, tick_on, tick_over, within_more, within_same}
 use Rattle.demo_load.proofs.playing.play_tick.Goals as goal
 
@@ -42,6 +44,18 @@ returns-in-Ok-Idle-clause-machine g c =
     ∙ (sym (ap (λ (h : History). h.machine) (tick_idle (c.args.count - c.steps.done) DEFAULT_STEPS m does.0))
     ∙ c.steps.invariant.machine))
 
+pub returns-in-Ok-Idle-clause-stood : goal.returns-in-Ok-Idle-clause-stood
+returns-in-Ok-Idle-clause-stood g c =
+    let D : Stepped → Type 0 = λ s. DoesStep g.W.SwapStore.held c.steps.kernel c.step.new.self s in
+    let does : D Idle = subst D c.in-Ok-Idle.field-0-is (c.in-Ok-Idle.ensures.does (trusted_knows c.step.ensures.keeps (no_slots_trusted g.W.SwapStore c.steps.kernel (slots_stay c.steps.invariant.keeps c.requires.slots)))) in
+    let m : Machine = machine_of g.W.SwapStore.held c.steps.kernel in
+    let next : Machine = machine_of g.W.SwapStore.held c.end_turn.new.self in
+    let left : ℕ = c.args.count - c.steps.done in
+    c.steps.invariant.stood
+    (through_turn (Stood g.W.SwapStore c.steps.kernel) left DEFAULT_STEPS m next (idle_turn left DEFAULT_STEPS m does.0)
+    (stood_here c.steps.invariant.sound c.steps.invariant.usable) (c.end_turn.ensures.machine ∙ ap turn does.1)
+    (stood_there next (kept_after c.step.ensures.keeps c.end_turn.ensures.keeps) c.end_turn.ensures.sound c.end_turn.ensures.usable refl))
+
 pub returns-in-Ok-Idle-clause-within : goal.returns-in-Ok-Idle-clause-within
 returns-in-Ok-Idle-clause-within g c =
     let D : Stepped → Type 0 = λ s. DoesStep g.W.SwapStore.held c.steps.kernel c.step.new.self s in
@@ -60,6 +74,9 @@ steps-init g c =
       full = (let m : Machine = machine_of g.W.SwapStore.held c.args.kernel.now in
           let F : ℕ → Type 0 = λ n. ComesFull (room_in c.args.kernel.now) m (event_moments (Tick n) DEFAULT_STEPS m) in
           λ full. subst F all full);
+      stood = (let m : Machine = machine_of g.W.SwapStore.held c.args.kernel.now in
+          let F : ℕ → Type 0 = λ n. Throughout (Stood g.W.SwapStore c.args.kernel.now) m (event_moments (Tick n) DEFAULT_STEPS m) in
+          λ stood. subst F all stood);
       steps = omega arith;
       within = c.requires.within;
       sound = c.requires.sound;
@@ -110,6 +127,13 @@ steps-preserved g c =
           c.steps.invariant.full
           (step_on_full (room_in c.steps.kernel) (room_in c.step.new.self) count DEFAULT_STEPS m (machine_of g.W.SwapStore.held c.step.new.self) (omega arith) does.0 more
           (room_stays c.step.ensures.keeps) does.1.machine (subst F (sym fewer) full));
+      stood = λ later.
+          let next : Machine = machine_of g.W.SwapStore.held c.step.new.self in
+          let F : ℕ → Type 0 = λ n. Throughout (Stood g.W.SwapStore c.step.new.self) next (event_moments (Tick n) DEFAULT_STEPS next) in
+          let rest : F (count - 1) = subst F (sym fewer) later in
+          c.steps.invariant.stood
+          (through_step_to (Stood g.W.SwapStore c.steps.kernel) count DEFAULT_STEPS m next (omega arith) does.0 more
+          (stood_here c.steps.invariant.sound c.steps.invariant.usable) does.1.machine (λ i. stood_since c.step.ensures.keeps _ (rest i)));
       steps = omega (arith, steps, c.steps.invariant.steps);
       within = within_more m.steps _ (length c.last.result.now) c.steps.totals c.count_all.new.self c.steps.invariant.within steps few
           c.count_all.ensures.sends c.count_all.ensures.gone;
@@ -134,6 +158,17 @@ returns-clause-machine g c =
     c.end_turn-2.ensures.machine
     ∙ (sym (ap (λ (h : History). h.machine) (ap (λ (n : ℕ). play (Tick n) DEFAULT_STEPS m) none ∙ tick_zero DEFAULT_STEPS m))
     ∙ c.steps.invariant.machine)
+
+pub returns-clause-stood : goal.returns-clause-stood
+returns-clause-stood g c =
+    let m : Machine = machine_of g.W.SwapStore.held c.steps.kernel in
+    let next : Machine = machine_of g.W.SwapStore.held c.end_turn-2.new.self in
+    let left : ℕ = c.args.count - c.steps.done in
+    let none : left ≡ 0 = omega arith in
+    c.steps.invariant.stood
+    (through_turn (Stood g.W.SwapStore c.steps.kernel) left DEFAULT_STEPS m next (over_moments left DEFAULT_STEPS m none)
+    (stood_here c.steps.invariant.sound c.steps.invariant.usable) c.end_turn-2.ensures.machine
+    (stood_there next c.end_turn-2.ensures.keeps c.end_turn-2.ensures.sound c.end_turn-2.ensures.usable refl))
 
 pub returns-clause-within : goal.returns-clause-within
 returns-clause-within g c =

@@ -1,13 +1,18 @@
-use Rattle.std.proofs.Common.{◌≡◌, ℕ, ap, ◌∙◌, subst, sym, refl, inr}
+use Rattle.std.proofs.Common.{◌≡◌, ℕ, ap, ◌∙◌, subst, sym, refl, inr, None}
 use Rattle.machine_model.specs.State.Machine.{Machine}
 use Rattle.vm_memory.specs.Memory.{store_of}
 use Rattle.xk_base.specs.declared.limits.TheConstants.{DEFAULT_STEPS}
 use Rattle.machine_laws.specs.History.{history}
 use Rattle.machine_laws.specs.HistoryMoments.{moments_of}
-use Rattle.demo_load.specs.Events.{load_events, load_history, load_machine}
+use Rattle.demo_load.specs.Events.{load_events, load_history, load_machine, load_plan}
 use Rattle.demo_load.specs.Totals.{demo_line, totals_of}
+use Rattle.xk_kernel.specs.Moments.{Stood, Throughout}
+use Rattle.xous_program.proofs.Headline.RamLemmas.{had_kernels, stopped_runs_not}
 use Rattle.xous_program.specs.Outcome.Demo.{Demonstrates}
-use Rattle.xous_program.specs.Outcome.Sides.{store_side}
+use Rattle.xous_program.specs.Outcome.InRam.{EndsRun, HadKernels}
+use Rattle.xous_program.specs.Outcome.Said.{load_run}
+use Rattle.xous_program.specs.Outcome.Sides.{StoreSide, store_side}
+use Rattle.xous_program.specs.Outcome.Starts.{room_of}
 use Rattle.program_status.specs.Notes.{SinkSide, sink_side}
 use Rattle.event_player.specs.Rooms.{ComesFull, Room}
 use Rattle.event_player.specs.Standing.{room_in}
@@ -54,3 +59,20 @@ returns-in-Err-play_load-clause-told g c =
         refl,
       );
     }))
+
+pub returns-in-Ok-play_load-clause-in_ram : goal.returns-in-Ok-play_load-clause-in_ram
+returns-in-Ok-play_load-clause-in_ram g c = λ done.
+    let clients : ℕ = c.args.demo.clients in
+    let S : g.row.W.Denot → Type 0 = λ store. HadKernels g.W.SwapStore (load_run clients) store in
+    let T : Machine → Type 0 = λ m. Throughout (Stood g.W.SwapStore c.in-Ok.kernel) m (moments_of (load_events clients) DEFAULT_STEPS m) in
+    subst S (sym c.close.ensures)
+    (had_kernels g.W.SwapStore c.in-Ok.kernel c.play_load.new.kernel (load_run clients) (subst T c.in-Ok.ensures.booted c.in-Ok-play_load.ensures.stood)
+    c.play_load.ensures.keeps c.play_load.ensures.sound c.in-Ok-play_load.ensures.usable
+    (c.in-Ok-play_load.ensures.machine ∙ ap (λ (m : Machine). (history (load_events clients) DEFAULT_STEPS m).machine) c.in-Ok.ensures.booted))
+
+pub returns-in-Err-clause-in_ram : goal.returns-in-Err-clause-in_ram
+returns-in-Err-clause-in_ram g c = λ done.
+    let clients : ℕ = c.args.demo.clients in
+    let side : StoreSide = store_side g.W.SwapStore c.args.store c.in-Err.ended.store in
+    absurd (stopped_runs_not (room_of (load_plan clients)) (load_plan clients).slots None (load_machine clients) side c.in-Err.ended.status c.in-Err.ensures.stopped
+    (subst EndsRun (sym done) tt))

@@ -22,6 +22,7 @@ use Rattle.event_player.specs.Standing.{room_in, stand}
 use Rattle.xous_program.specs.Words.{Play, play_in}
 use Rattle.host_io.proofs.ReadingLemmas.{told_file, read_of_file}
 use Rattle.event_player.proofs.Playing.StandingLemmas.{room_stays}
+use Rattle.xous_program.proofs.Headline.RamLemmas.{had_kernels}
 use Rattle.xous_program.proofs.Outcome.TrustLemmas.{booted_on, full_on, known_side, trusted_side}
 use Rattle.xous_program.proofs.Outcome.TopLemmas.{finished_cause, finished_tells, has_file, part_of_whole, rose_after}
 use Rattle.xous_program.proofs.commands.play.play_events.Goals as goal
@@ -31,7 +32,7 @@ returns-in-Ok-play_file-clause-played g c = λ start begins.
     let file = g.H.Host.file c.args.host.now in
     let play : Play = play_in c.args.play in
     let faults = g.K.Sink.faults in
-    let run = run_from c.args.play.tells c.args.play.limit start (put (g.K.Sink.written c.args.out.now)) in
+    let run = run_from g.W.SwapStore c.args.kernel.now c.args.play.tells c.args.play.limit start (put (g.K.Sink.written c.args.out.now)) in
     let after = put (g.K.Sink.written c.play_file.new.out) in
     let runs : PlaysOut run (g.H.Host.left c.pick_file.new.self Second) (stand g.W.SwapStore c.play_file.new.kernel after) c.in-Ok-play_file.ending =
     c.in-Ok-play_file.ensures.runs start begins in
@@ -45,16 +46,16 @@ returns-in-Ok-play_file-clause-played g c = λ start begins.
     let side : SinkSide = sink_side g.K.Sink c.play_file.new.out c.finish.new.out in
     let last : Machine = machine_of g.W.SwapStore.held c.play_file.new.kernel in
     inr (record {
-      asked = subst A (sym c.play_file.ensures.asked) c.in-Ok.ensures.asked;
+      asked = subst A (sym c.play_file.ensures.reads.asked) c.in-Ok.ensures.asked;
       cause = finished_cause play (room_in c.args.kernel.now) start last call (g.K.Sink.written c.play_file.new.out) (faults c.play_file.new.out)
-          c.in-Ok-play_file.ending c.finish.result c.play_file.ensures.out c.finish.ensures.finished;
+          c.in-Ok-play_file.ending c.finish.result c.play_file.ensures.serves.never_falls c.finish.ensures.finished;
       content = finished_tells play (booted_on start c.args.kernel.now) last call (g.K.Sink.written c.play_file.new.out) (faults c.play_file.new.out) runs.bytes c.in-Ok-play_file.ending c.finish.result
           (told_file file play.events (g.H.Host.left c.pick_file.new.self Second) runs.bytes c.in-Ok.ensures.left runs.file) runs.may
-          (λ known. runs.exact (known_side run after (input_of runs.bytes) c.play_file.ensures.keeps known)) c.finish.ensures.finished;
+          (λ known. let all = runs.exact (known_side run after (input_of runs.bytes) c.play_file.ensures.serves.keeps known) in (all.0, all.1)) c.finish.ensures.finished;
       events_read = λ done.
           let F : Status → Type 0 = λ status. Finishes play last c.in-Ok-play_file.ending side status in
           let finished : F Done = subst F done c.finish.ensures.finished in
-          c.in-Ok-play_file.ensures.end (ap (λ (e : Ending). Ok e) finished.0);
+          c.in-Ok-play_file.ensures.reads.end (ap (λ (e : Ending). Ok e) finished.0);
     })
 
 pub returns-in-Err-Read-clause-played : goal.returns-in-Err-Read-clause-played
@@ -62,22 +63,22 @@ returns-in-Err-Read-clause-played g c = λ start begins.
     let file = g.H.Host.file c.args.host.now in
     let before = g.H.Host.left c.pick_file.new.self Second in
     let left = g.H.Host.left c.play_file.new.host Second in
-    let run = run_from c.args.play.tells c.args.play.limit start (put (g.K.Sink.written c.args.out.now)) in
+    let run = run_from g.W.SwapStore c.args.kernel.now c.args.play.tells c.args.play.limit start (put (g.K.Sink.written c.args.out.now)) in
     let after = put (g.K.Sink.written c.play_file.new.out) in
     let P : RunFault → Type 0 = λ f. Runs run before left (stand g.W.SwapStore c.play_file.new.kernel after) (Err f) in
     let runs : P faults.Read = subst P c.in-Err-Read.field-0-is (c.in-Err-Read.ensures.runs start begins) in
     let A : Option (List FileAsked) → Type 0 = λ asked. Asked (g.H.Host.asked c.args.host.now) asked Second c.args.play.events.now true in
     inr (record {
-      asked = subst A (sym c.play_file.ensures.asked) c.in-Ok.ensures.asked;
+      asked = subst A (sym c.play_file.ensures.reads.asked) c.in-Ok.ensures.asked;
       cause = (let faults = g.H.Host.faults in
           rose_after (faults c.args.host.now) (faults c.pick_file.new.self) (faults c.play_file.new.host) c.pick_file.ensures.never_falls
-          (c.in-Err-Read.ensures.read (ap (λ (f : RunFault). Err f) c.in-Err-Read.field-0-is)));
+          (c.in-Err-Read.ensures.reads.read (ap (λ (f : RunFault). Err f) c.in-Err-Read.field-0-is)));
       content = record {
         there = has_file file c.args.play.events.now before c.in-Ok.ensures.left;
         bytes = runs.read;
         read = read_of_file file c.args.play.events.now before left runs.read c.in-Ok.ensures.left runs.taken;
         may = runs.may;
-        exact = λ known. runs.exact (known_side run after (input_of (whole_lines runs.read)) c.play_file.ensures.keeps known);
+        exact = λ known. (runs.exact (known_side run after (input_of (whole_lines runs.read)) c.play_file.ensures.serves.keeps known)).0;
         silent = λ silent. ap (λ (t : Text). t.out) (runs.silent silent refl);
       };
       events_read = λ done. cc;
@@ -88,20 +89,20 @@ returns-in-Err-Write-clause-played g c = λ start begins.
     let file = g.H.Host.file c.args.host.now in
     let before = g.H.Host.left c.pick_file.new.self Second in
     let left = g.H.Host.left c.play_file.new.host Second in
-    let run = run_from c.args.play.tells c.args.play.limit start (put (g.K.Sink.written c.args.out.now)) in
+    let run = run_from g.W.SwapStore c.args.kernel.now c.args.play.tells c.args.play.limit start (put (g.K.Sink.written c.args.out.now)) in
     let after = put (g.K.Sink.written c.play_file.new.out) in
     let P : RunFault → Type 0 = λ f. Runs run before left (stand g.W.SwapStore c.play_file.new.kernel after) (Err f) in
     let runs : P faults.Write = subst P c.in-Err-Write.field-0-is (c.in-Err-Write.ensures.runs start begins) in
     let A : Option (List FileAsked) → Type 0 = λ asked. Asked (g.H.Host.asked c.args.host.now) asked Second c.args.play.events.now true in
     inr (record {
-      asked = subst A (sym c.play_file.ensures.asked) c.in-Ok.ensures.asked;
-      cause = c.in-Err-Write.ensures.write (ap (λ (f : RunFault). Err f) c.in-Err-Write.field-0-is);
+      asked = subst A (sym c.play_file.ensures.reads.asked) c.in-Ok.ensures.asked;
+      cause = c.in-Err-Write.ensures.serves.write (ap (λ (f : RunFault). Err f) c.in-Err-Write.field-0-is);
       content = record {
         events = runs.bytes;
         is_file = told_file file c.args.play.events.now before runs.bytes c.in-Ok.ensures.left runs.file;
         exact = λ known.
             part_of_whole c.args.play.tells (g.K.Sink.written c.args.out.now) (g.K.Sink.written c.play_file.new.out) (run_of c.args.play.limit start runs.bytes)
-            (runs.exact (known_side run after (input_of runs.bytes) c.play_file.ensures.keeps known));
+            (runs.exact (known_side run after (input_of runs.bytes) c.play_file.ensures.serves.keeps known));
       };
       events_read = λ done. cc;
     })
@@ -111,31 +112,46 @@ returns-in-Err-Swap-clause-played g c = λ start begins.
     let file = g.H.Host.file c.args.host.now in
     let before = g.H.Host.left c.pick_file.new.self Second in
     let left = g.H.Host.left c.play_file.new.host Second in
-    let run = run_from c.args.play.tells c.args.play.limit start (put (g.K.Sink.written c.args.out.now)) in
+    let run = run_from g.W.SwapStore c.args.kernel.now c.args.play.tells c.args.play.limit start (put (g.K.Sink.written c.args.out.now)) in
     let after = put (g.K.Sink.written c.play_file.new.out) in
     let P : RunFault → Type 0 = λ f. Runs run before left (stand g.W.SwapStore c.play_file.new.kernel after) (Err f) in
     let runs : P faults.Swap = subst P c.in-Err-Swap.field-0-is (c.in-Err-Swap.ensures.runs start begins) in
     let A : Option (List FileAsked) → Type 0 = λ asked. Asked (g.H.Host.asked c.args.host.now) asked Second c.args.play.events.now true in
     inr (record {
-      asked = subst A (sym c.play_file.ensures.asked) c.in-Ok.ensures.asked;
+      asked = subst A (sym c.play_file.ensures.reads.asked) c.in-Ok.ensures.asked;
       cause = (
-        c.in-Err-Swap.ensures.swap (ap (λ (f : RunFault). Err f) c.in-Err-Swap.field-0-is),
+        c.in-Err-Swap.ensures.serves.swap (ap (λ (f : RunFault). Err f) c.in-Err-Swap.field-0-is),
         record {
           events = runs.bytes;
           is_file = told_file file c.args.play.events.now before runs.bytes c.in-Ok.ensures.left runs.file;
-          full = full_on (room_in c.args.kernel.now) (room_in c.play_file.new.kernel) start _ (room_stays c.play_file.ensures.keeps) runs.full;
+          full = full_on (room_in c.args.kernel.now) (room_in c.play_file.new.kernel) start _ (room_stays c.play_file.ensures.serves.keeps) runs.full;
         },
       );
       content = record {
         events = runs.bytes;
         is_file = told_file file c.args.play.events.now before runs.bytes c.in-Ok.ensures.left runs.file;
         exact = λ trusted.
-            let all = runs.exact (trusted_side c.play_file.ensures.keeps trusted) in
+            let all = runs.exact (trusted_side c.play_file.ensures.serves.keeps trusted) in
             record {
               some = all.some;
-              soon = full_on (room_in c.args.kernel.now) (room_in c.play_file.new.kernel) start _ (room_stays c.play_file.ensures.keeps) all.soon;
+              soon = full_on (room_in c.args.kernel.now) (room_in c.play_file.new.kernel) start _ (room_stays c.play_file.ensures.serves.keeps) all.soon;
             };
         silent = λ silent. ap (λ (t : Text). t.out) (runs.silent silent refl);
       };
       events_read = λ done. cc;
     })
+
+pub returns-in-Ok-play_file-clause-in_ram : goal.returns-in-Ok-play_file-clause-in_ram
+returns-in-Ok-play_file-clause-in_ram g c = λ start begins ends.
+    let file = g.H.Host.file c.args.host.now in
+    let run = run_from g.W.SwapStore c.args.kernel.now c.args.play.tells c.args.play.limit start (put (g.K.Sink.written c.args.out.now)) in
+    let after = put (g.K.Sink.written c.play_file.new.out) in
+    let runs : PlaysOut run (g.H.Host.left c.pick_file.new.self Second) (stand g.W.SwapStore c.play_file.new.kernel after) c.in-Ok-play_file.ending =
+    c.in-Ok-play_file.ensures.runs start begins in (
+      runs.bytes,
+      told_file file c.args.play.events.now (g.H.Host.left c.pick_file.new.self Second) runs.bytes c.in-Ok.ensures.left runs.file,
+      λ known.
+          let all = runs.exact (known_side run after (input_of runs.bytes) c.play_file.ensures.serves.keeps known) in
+          had_kernels g.W.SwapStore c.args.kernel.now c.play_file.new.kernel _ all.2 c.play_file.ensures.serves.keeps c.play_file.ensures.serves.sound
+          c.in-Ok-play_file.ensures.serves.usable all.1,
+    )

@@ -35,3 +35,6 @@ returns-in-Err-clause-saved g c = λ means known.
     c.as_slice.ensures ∙ ap (λ (sheet : SheetBytes). sheet.bytes) (c.in-Ok.ensures.saved means) ∙ ap saved_bytes same in
     let G : List ℕ → Type 0 = λ b. GrowsByProperPrefix (g.K.Sink.written c.args.out.now) (g.K.Sink.written c.put_all.new.out) b in
     subst G bytes c.in-Err.ensures.front
+
+pub returns-in-Ok-put_all-clause-stays : goal.returns-in-Ok-put_all-clause-stays
+returns-in-Ok-put_all-clause-stays g c = λ ends. (c.in-Ok.ensures.usable, c.save.ensures.machine.whole)
