@@ -1,6 +1,7 @@
 pub mod Asked
 pub mod Calls
 pub mod Endings
+pub mod Failures
 pub mod Files
 pub mod Lines
 pub mod Outcomes

@@ -3,12 +3,14 @@
 
 mod answer;
 mod endings;
+mod failures;
 mod files;
 mod folder;
 mod image;
 mod notes;
 mod outcome;
 mod run;
+mod view;
 mod watching;
 mod words;
 

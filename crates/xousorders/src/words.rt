@@ -4,6 +4,7 @@ ghost use Rattle.std.specs.Prelude.{◌≡◌, ◌≤◌, IfOk, IfSome, OnOk, So
 ghost use Rattle.xousorders.specs.Words.{IsName, is_option as is_option_word};
 
 use event_text::read_digits;
+use order_model::{Failing, Sights};
 use std::alloc::Global;
 use xk_base::limits::STEP_LIMIT;
 use xk_base::{Event, Pid};
@@ -27,8 +28,16 @@ pub struct Words<'a> {
     pub once: Vec<Event>,
     /// The folder for event files.
     pub folder: Option<&'a str>,
-    /// Whether there is to be one ending at most.
-    pub one: bool,
+    /// What is seen of endings.
+    pub see: Sights,
+    /// Whether the bytes of the console are told as digits.
+    pub hex: bool,
+    /// What makes an ending a failure.
+    pub fails: Vec<Failing<'a>>,
+    /// Whether it is a failure if there is more than one ending.
+    pub differ: bool,
+    /// Whether the search stops at the first failure.
+    pub first: bool,
 }
 
 /// Why the words aren't read.
@@ -143,7 +152,7 @@ fn take_alone<'a>(
     ensures { IfSome image.old (λ name. IsName name.now) → OnOk result (IfSome image.new (λ name. IsName name.now)) }
 {
     if word == "--one" {
-        words.one = true;
+        words.differ = true;
         return Ok(());
     }
     if is_option(word) {
@@ -162,7 +171,16 @@ fn no_words<'a>(alloc: Global) -> Words<'a> {
         before: None,
         once: Vec::new(alloc),
         folder: None,
-        one: false,
+        see: Sights {
+            console: true,
+            exits: true,
+            waits: true,
+            servers: true,
+        },
+        hex: false,
+        fails: Vec::new(alloc),
+        differ: false,
+        first: false,
     }
 }
 

@@ -25,10 +25,10 @@ returns-in-Ok-put_all g c =
     c.args.folder.now c.write_orders.new.folder in
     let answer = c.in-Ok.answer in
     let report : Report = report_of answer.quest.subject answer.told in
-    told_ends _ command sides report answer.text.items c.as_slice.result.now c.ended.result c.in-Ok.ensures.told c.as_slice.ensures.value
+    told_ends _ command sides report answer.text.items c.as_slice.result.now answer.outcome c.in-Ok.ensures.told c.as_slice.ensures.value
     c.in-Ok-put_all.ensures.appended
     (subst (λ (b : Bool). Grows sides.filed sides.filed_after (files_in b report)) c.is_some-filed.ensures c.in-Ok-write_orders.ensures.filed)
-    c.ended.ensures
+    c.in-Ok.ensures.outcome
 
 pub returns : goal.returns
 returns g c =
