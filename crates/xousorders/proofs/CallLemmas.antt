@@ -14,7 +14,7 @@ use Rattle.order_search.specs.declared.quest.OrderFault.TheVariants.{Line, Steps
 use Rattle.order_search.specs.declared.subject.Subject.{Subject}
 use Rattle.order_search.specs.Faults.{IsFault, IsRunFault}
 use Rattle.xousorders.specs.Asked.{Asking, HostFiles, IsAsked, IsTooLong, RefusesEvents, RefusesImage, Stops}
-use Rattle.xousorders.specs.Calls.{Command, Ends, IsUnwritten, Report, Sides, TellsSearch, files_in, lines_in, outcome_in}
+use Rattle.xousorders.specs.Calls.{Command, Ends, IsUnwritten, Report, Sides, TellsSearch, WritesFiles, lines_in, outcome_in}
 use Rattle.xousorders.specs.Failures.{asks_failure, tells_failure}
 use Rattle.xousorders.specs.Outcomes.{IsUnfiled, is_whole, outcome_of, passed}
 use Rattle.xousorders.specs.Searched.{IsSearched, IsStopped}
@@ -161,7 +161,7 @@ module _ (cmp : List ℕ → List ℕ → Ordering) (command : Command) (sides :
 
   -- with all told
   pub told_ends : (report : Report) (text bytes : List ℕ) (outcome : Outcome) → TellsSearch cmp sides.files command text report → bytes ≡ text
-      → Grows sides.written sides.written_after bytes → Grows sides.filed sides.filed_after (files_in command.filed report)
+      → Grows sides.written sides.written_after bytes → WritesFiles command sides report
       → outcome ≡ outcome_in command report → Ends cmp command sides outcome
   told_ends report text bytes outcome told same written filed is = subst (Ends cmp command sides) (sym is) (go tells refl)
     where

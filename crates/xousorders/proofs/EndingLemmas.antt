@@ -15,7 +15,7 @@ use Rattle.graph_search.specs.Paths.{labels_to}
 use Rattle.xk_base.proofs.CountingLemmas.{count_below-none}
 use Rattle.xk_base.specs.Tables.Counting.{count_below, listed_below}
 use Rattle.xousorders.proofs.ShownLemmas.{same_shown-Decides}
-use Rattle.xousorders.specs.Endings.{Adds, AreDifferent, AreEndings, IsAt, IsEndingOf, IsFirst, IsLook, IsNew, Lists, NoneIs, Shown}
+use Rattle.xousorders.specs.Endings.{Adds, AreDifferent, AreEndings, IsAt, IsEndingOf, IsFirst, IsLook, IsNew, IsWithin, Lists, NoneIs, Shown}
 use Rattle.xousorders.specs.Endings.{ends_at, looks_at, node_shown, nodes_like, same_shown, shown_in}
 use Rattle.xousorders.specs.declared.endings.Ending.{Ending}
 use Rattle.xousorders.specs.declared.endings.Endings.{Endings}
@@ -320,9 +320,9 @@ module _ (t : Telling) (view : View) where
       go (inr same) = omega (arith, same, is)
 
   pub node_told : (node : ℕ) (order : List Move) (shown : Shown) (old new : Endings) → ends_at t node ≡ true
-      → order ≡ labels_to t.edges node → shown ≡ node_shown t view node → Adds node order shown old new → AreEndings t view node old
-      → AreEndings t view (node + 1) new
-  node_told node order shown old new ends labels as_there adds are = record {
+      → order ≡ labels_to t.edges node → shown ≡ node_shown t view node → IsWithin t node → Adds node order shown old new
+      → AreEndings t view node old → AreEndings t view (node + 1) new
+  node_told node order shown old new ends labels as_there within adds are = record {
     each = go adds.list;
     first = λ place ending at. firsts adds.list place ending at;
     different = differ node order shown old new adds are.different;
@@ -374,6 +374,7 @@ module _ (t : Telling) (view : View) where
             ends = ap (ends_at t) more.first ∙ ends;
             order = more.order_is ∙ (labels ∙ ap (labels_to t.edges) (sym more.first));
             seen = more.alike ∙ (as_there ∙ ap (node_shown t view) (sym more.first));
+            within = subst (IsWithin t) (sym more.first) within;
           } in
           subst (All (IsEndingOf t view)) (sym more.list)
           (All-append (IsEndingOf t view) old.list.items (more.ending ∷ []) are.each (All-cons (IsEndingOf t view) more.ending [] is (All-nil (IsEndingOf t view))))

@@ -13,6 +13,11 @@ use Rattle.order_model.specs.Failing.{first_failing}
 use Rattle.order_model.specs.Moves.{Point, leads_by}
 use Rattle.order_model.specs.Nodes.{after, node_of}
 use Rattle.order_model.specs.Searches.{IsPointTold, IsSound, IsToldOrder, Telling, note_of}
+use Rattle.order_model.specs.Choosing.{IsStand}
+use Rattle.order_model.specs.declared.orders.Trail.{Trail}
+use Rattle.machine_model.specs.State.Machine.{Machine}
+use Rattle.snapshot_rows.specs.declared.state.State.{State}
+use Rattle.xk_base.specs.declared.limits.TheConstants.{STEP_LIMIT}
 use Rattle.order_search.specs.declared.subject.Subject.{Subject}
 use Rattle.order_search.specs.Found.{FindsAllOrders, FindsNodes, TellsAllOrders, TellsOrders, finding_of, telling_in}
 use Rattle.order_search.specs.Quests.{start_of}
@@ -21,7 +26,7 @@ use Rattle.graph_search.proofs.PathLemmas.{later_no_shorter}
 use Rattle.graph_search.specs.Paths.{labels_to}
 use Rattle.graph_search.specs.Told.{IsFound}
 use Rattle.xousorders.specs.Calls.{SaysSo, report_of}
-use Rattle.xousorders.specs.Endings.{AreEndings, AreShortest, IsAt, IsEndingOf, Shown, TellsAllEndings, TellsEndings}
+use Rattle.xousorders.specs.Endings.{AreEndings, AreShortest, IsAt, IsEndingOf, IsWithin, Shown, TellsAllEndings, TellsEndings}
 use Rattle.xousorders.specs.Endings.{ends_at, failing_of, node_shown, shown_in, shown_of}
 use Rattle.xousorders.specs.declared.endings.Ending.{Ending}
 use Rattle.xousorders.specs.declared.endings.Endings.{Endings}
@@ -29,6 +34,14 @@ use Rattle.xousorders.specs.declared.run.Told.{Told}
 use Rattle.xousorders.specs.declared.view.View.{View}
 use Rattle.xousorders.proofs.EndingLemmas.{ended}
 use Rattle.xousorders.proofs.ShownLemmas.{fails_told, shown_alike}
+
+-- an order leads to a point that was stood at, in a run that could be
+pub within_there : (t : Telling) (node : ℕ) (told : IsToldOrder t node) (state : State) (trail : Trail) → IsStand told.last state trail
+    → state.steps ≤ STEP_LIMIT → IsWithin t node
+within_there t node told state trail stand low p leads =
+    let same : p ≡ told.last = (let e = sym leads ∙ told.leads in cc) in
+    let steps : state.steps ≡ p.state.steps = ap (λ (m : Machine). m.steps) stand.rows ∙ ap (λ (q : Point). q.state.steps) (sym same) in
+    omega (arith, low, steps)
 
 module _ (t : Telling) (view : View) where
   -- a node is told as it is where its order leads
@@ -72,6 +85,7 @@ module _ (t : Telling) (view : View) where
           last = told.last;
           leads = ap (leads_by t.asked t.start) is.order ∙ told.leads;
           ends = sym (ap (λ (note : Note). note.ends) (told.noted has.note has.is)) ∙ has.ends;
+          within = is.within told.last told.leads;
           seen = seen;
           fails = λ failing so. fails_told view.fails.items told.last failing (sym (failing_there ending told.last seen) ∙ so);
         });

@@ -1,9 +1,11 @@
 -- How a call of the program ends, and what it tells of a search.
-use Rattle.std.specs.Prelude.{◌≡◌, ◌<◌, ◌⊎◌, ◌+◌, ◌++◌, ℕ, Bool, true, if◌then◌else◌, is_some, List, [], length, Option}
+use Rattle.std.specs.Prelude.{◌≡◌, ◌<◌, ◌⊎◌, ◌+◌, ◌++◌, ℕ, Bool, true, All, IsSome, List, [], length, None, Option, Some}
 use Rattle.std.specs.Option.{option_copied}
 use Rattle.std.specs.declared.cmp.Ordering.{Ordering}
+use Rattle.event_text.specs.Spelling.{AreAskable}
 use Rattle.graph_search.specs.declared.found.Extent.TheVariants.{Whole}
 use Rattle.order_model.specs.Asking.{asked_of}
+use Rattle.order_model.specs.Moves.{events_of}
 use Rattle.order_search.specs.declared.subject.Subject.{Subject}
 use Rattle.order_search.specs.Faults.{IsBegun}
 use Rattle.order_search.specs.Found.{DigestsTell, Finding, FindsNodes, TellsAllOrders, finding_of, telling_in}
@@ -21,9 +23,10 @@ use Rattle.xousorders.specs.Failures.{FailsSo, NoneDiffer, NoneFails, asks_failu
 use Rattle.xousorders.specs.Files.{EventFile, order_files}
 use Rattle.xousorders.specs.Lines.{differ_text, endings_text, extent_line, failures_text}
 use Rattle.xousorders.specs.Outcomes.{is_whole, outcome_of}
+use Rattle.xousorders.specs.Replayed.{AreReplayed}
 use Rattle.xousorders.specs.Searched.{IsSearched, slices_tried}
 use Rattle.xousorders.specs.declared.endings.Endings.{Endings}
-use Rattle.xousorders.specs.declared.folder.Folder.{Ghosts as Folder}
+use Rattle.xousorders.specs.declared.event_files.EventFiles.{Ghosts as EventFiles}
 use Rattle.xousorders.specs.declared.outcome.Outcome.{Outcome}
 use Rattle.xousorders.specs.declared.outcome.Outcome.TheVariants.{Cut, Ended, Failed}
 use Rattle.xousorders.specs.declared.run.Told.{Told}
@@ -31,12 +34,12 @@ use Rattle.xousorders.specs.declared.view.View.{View}
 use Rattle.xousorders.specs.declared.words.Words.{Words}
 
 -- what is asked for, how many steps an order has at most where steps count, how many nodes are kept at most, whether event files are to be
--- written, what is told of endings, whether it is a failure if they differ, and whether the search stops at a failure
+-- written, and into which folder, what is told of endings, whether it is a failure if they differ, and whether the search stops at a failure
 pub record Command : Type 0 where
   pub asking : Asking
   pub steps : ℕ
   pub states : ℕ
-  pub filed : Bool
+  pub folder : Option (List ℕ)
   pub view : View
   pub differ : Bool
   pub first : Bool
@@ -49,7 +52,7 @@ command_in words = record {
   asking = asking_of words.image.now (option_copied words.before) words.quantum words.once.items words.see.exits;
   steps = words.steps;
   states = words.states;
-  filed = is_some words.folder;
+  folder = option_copied words.folder;
   view = view_in words;
   differ = words.differ;
   first = words.first;
@@ -78,10 +81,14 @@ report_lines fails differ r =
 abbrev pub lines_in : Command → Report → List ℕ
 lines_in command r = report_lines command.view.fails.items command.differ r
 
--- the event files of its endings, where they are to be written
-abbrev pub files_in : Bool → Report → List EventFile
-files_in filed r =
-    if filed then order_files (asked_of r.finding.searched.orders) r.finding.searched.before.items r.endings.list.items else []
+-- the event files of its endings, if there is a folder for them
+abbrev pub files_in : Option (List ℕ) → Report → List EventFile
+files_in None r = []
+files_in (Some folder) r = order_files folder (asked_of r.finding.searched.orders) r.finding.searched.before.items r.endings.list.items
+
+-- lines can ask for the events of each ending's order
+abbrev pub AreSpelled : Report → Type 0
+AreSpelled r = All (λ ending. AreAskable (events_of (asked_of r.finding.searched.orders) ending.order.items)) r.endings.list.items
 
 -- **It is all.** Each order leads to a node that was found, by no longer order; wherever an order ends, what is seen there and of what it
 -- fails is told; and the order of each ending is a shortest one to it.
@@ -165,7 +172,7 @@ pub record Sides : Type 0 where
   pub folder_faults : ℕ
   pub folder_faults_after : ℕ
 
-abbrev pub sides_of : {H K F : Type 0} → Host H → Sink K → Folder F → H → H → K → K → F → F → Sides
+abbrev pub sides_of : {H K F : Type 0} → Host H → Sink K → EventFiles F → H → H → K → K → F → F → Sides
 sides_of S T U host host_after out out_after folder folder_after = record {
   files = S.file host;
   host_faults = S.faults host;
@@ -194,6 +201,11 @@ pub record EndsUntold (command : Command) (sides : Sides) (status : Status) : Ty
   pub unwritten : IsUnwritten sides
   pub stops : Stops sides.files command.asking command.steps (Rose sides.host_faults sides.host_faults_after) status
 
+-- the event files of its endings were written, if there is a folder for them, and **they replay their endings**
+pub record WritesFiles (command : Command) (sides : Sides) (r : Report) : Type 0 where
+  pub files : Grows sides.filed sides.filed_after (files_in command.folder r)
+  pub replayed : IsSome command.folder → AreReplayed r.finding.searched command.view r.endings.list.items
+
 module _ (cmp : List ℕ → List ℕ → Ordering) where
   -- **No failure was told, and there is none** if one was asked about and no two nodes have one digest: then the search is whole.
   pub record Passes (command : Command) (r : Report) : Type 0 where
@@ -207,12 +219,12 @@ module _ (cmp : List ℕ → List ℕ → Ordering) where
     pub asks : AsksFailure command
     pub cut : r.finding.extent ≡ Whole → ⊥
 
-  -- exactly the lines of a search were written, and its event files; and this is so of the search
+  -- exactly the lines of a search were written, and its event files, which replay its endings; and this is so of the search
   pub record Tells (command : Command) (sides : Sides) (Is : Report → Type 0) : Type 0 where
     pub report : Report
     pub right : IsReport cmp sides.files command report
     pub written : Grows sides.written sides.written_after (lines_in command report)
-    pub filed : Grows sides.filed sides.filed_after (files_in command.filed report)
+    pub filed : WritesFiles command sides report
     pub is : Is report
 
   -- a proper part of the lines was written, from its front, as the sink failed

@@ -12,6 +12,7 @@ use Rattle.order_model.specs.Searches.{Telling}
 use Rattle.order_text.specs.Texts.{seen_text}
 use Rattle.graph_search.specs.Paths.{labels_to}
 use Rattle.graph_search.specs.Told.{IsFound}
+use Rattle.xk_base.specs.declared.limits.TheConstants.{STEP_LIMIT}
 use Rattle.xk_base.specs.Tables.Counting.{count_below, listed_below}
 use Rattle.xousorders.specs.declared.endings.Ending.{Ending}
 use Rattle.xousorders.specs.declared.endings.Endings.{Endings}
@@ -60,11 +61,16 @@ node_shown t view node =
 unfoldable pub nodes_like : Telling → View → ℕ → Shown → ℕ
 nodes_like t view n shown = count_below n (λ node. ends_at t node && same_shown (node_shown t view node) shown)
 
+-- the order to the node of this number has no more steps than a run may have
+abbrev pub IsWithin : Telling → ℕ → Type 0
+IsWithin t node = (p : Point) → leads_by t.asked t.start (labels_to t.edges node) ≡ Some p → p.state.steps ≤ STEP_LIMIT
+
 -- an ending is that of a node where orders end, with the order to that node, and told as it is there
 pub record IsEndingOf (t : Telling) (view : View) (ending : Ending) : Type 0 where
   pub ends : ends_at t ending.first ≡ true
   pub order : ending.order.items ≡ labels_to t.edges ending.first
   pub seen : shown_in ending ≡ node_shown t view ending.first
+  pub within : IsWithin t ending.first
 
 -- ---- which ending is told so
 
@@ -142,11 +148,13 @@ pub record Adds (node : ℕ) (order : List Move) (shown : Shown) (old new : Endi
 
 -- ---- of orders
 
--- The order of the ending leads from the start to a point where orders end, and what is told is so there: what is seen, and of what it fails.
+-- The order of the ending leads from the start to a point where orders end, in no more steps than a run may have. What is told is so there:
+-- what is seen, and of what it fails.
 pub record IsEndingOrder (t : Telling) (view : View) (ending : Ending) : Type 0 where
   pub last : Point
   pub leads : leads_by t.asked t.start ending.order.items ≡ Some last
   pub ends : is_ending t.asked last.state ≡ true
+  pub within : last.state.steps ≤ STEP_LIMIT
   pub seen : shown_in ending ≡ shown_of view last
   pub fails : (failing : Failing) → failing_of view.fails.items ending.fails ≡ Some failing → fails_of failing last ≡ true
 

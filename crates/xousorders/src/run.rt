@@ -1,27 +1,28 @@
 //! A search is made and told.
 
 ghost use Rattle.std.specs.Option.{option_copied};
-ghost use Rattle.std.specs.Prelude.{◌≡◌, ◌<◌, ◌≤◌, ◌++◌, ℕ, true, IfErr, IfOk, OnOk, length};
+ghost use Rattle.std.specs.Prelude.{◌≡◌, ◌<◌, ◌≤◌, ◌++◌, ℕ, true, IfErr, IfOk, IsSome, OnOk, length};
+ghost use Rattle.event_text.specs.Spelling.{AreAskable};
 ghost use Rattle.order_search.specs.Faults.{IsBegun};
 ghost use Rattle.order_search.specs.Found.{FindsAllOrders, FindsNodes, finding_of};
 ghost use Rattle.xk_base.specs.Outside.{Rose};
 ghost use Rattle.xk_ports.specs.Told.{Grows};
 ghost use Rattle.xousorders.specs.Asked.{IsAsked, Stops, asking_of};
-ghost use Rattle.xousorders.specs.Calls.{Ends, SaysSo, SaysSoSoon, TellsSearch, command_in, files_in, outcome_in, report_lines, report_of, searched_line, sides_of};
+ghost use Rattle.xousorders.specs.Calls.{AreSpelled, Ends, SaysSo, SaysSoSoon, TellsSearch, command_in, files_in, outcome_in, report_lines, report_of, searched_line, sides_of};
 ghost use Rattle.xousorders.specs.Outcomes.{IsUnfiled};
 ghost use Rattle.xousorders.specs.Searched.{IsSearched, IsStopped};
 
 use crate::answer::{put_differ, put_endings, put_extent, put_failures, slices_tried};
 use crate::endings::{Endings, endings_of};
+use crate::event_files::EventFiles;
 use crate::files::write_files;
-use crate::folder::Folder;
 use crate::image::{read_events, read_image};
 use crate::outcome::{Outcome, ended, stopped, tells, unplayed};
 use crate::view::View;
 use crate::words::Words;
 use graph_search::{Found, Watch};
 use order_model::{Failing, Move, Note, Orders};
-use order_search::{OrderFault, Quest, Subject, search_orders};
+use order_search::{OrderFault, Quest, Subject, orders_are_replayed, search_orders};
 use program_status::{Planned, Status, plan_bytes};
 use std::alloc::{AllocError, Global};
 use xk_base::Event;
@@ -254,45 +255,49 @@ fn search_words<H: Host, W: Watch>(
     })
 }
 
-/// Writes the order to each ending as an event file, where they are to be written.
-fn write_orders<F: Folder>(
+/// Writes the order to each ending as an event file into the folder, if there is one.
+fn write_orders<F: EventFiles>(
     alloc: Global,
-    folder: &mut F,
-    filed: bool,
+    files: &mut F,
+    folder: Option<&str>,
     answer: &Answer,
 ) -> Result<(), Status>
     ensures filed { let report = report_of answer.now.quest.subject answer.now.told in
-        OnOk result (Grows (F.written folder.old) (F.written folder.new) (files_in filed report)) }
-    ensures unfiled { IfErr result (IsUnfiled (Rose (F.faults folder.old) (F.faults folder.new))) }
+        OnOk result (Grows (F.written files.old) (F.written files.new) (files_in (option_copied folder.entry) report)) }
+    ensures spelled { let report = report_of answer.now.quest.subject answer.now.told in
+        AreAskable answer.now.quest.subject.orders.once.items → OnOk result (IsSome (option_copied folder.entry) → AreSpelled report) }
+    ensures unfiled { IfErr result (IsUnfiled (Rose (F.faults files.old) (F.faults files.new))) }
 {
-    if !filed {
+    let Some(folder) = folder else {
         return Ok(());
-    }
+    };
     let lines = answer.quest.before();
     let endings = &answer.told.endings.list;
-    write_files(alloc, folder, lines, answer.quest.once(), endings)
+    write_files(alloc, files, folder, lines, answer.quest.once(), endings)
 }
 
 /// Searches what the words ask for, and tells what was found. It ends as `Ends` says: exactly the text of a search of that image, those
 /// events and those orders is written, or nothing but where the sink fails.
-pub fn run<H: Host, F: Folder, K: Sink, W: Watch>(
+pub fn run<H: Host, F: EventFiles, K: Sink, W: Watch>(
     alloc: Global,
     words: Words<'_>,
     host: &mut H,
-    folder: &mut F,
+    files: &mut F,
     out: &mut K,
     watch: &mut W,
 ) -> Outcome
-    requires { length words.once.items ≤ 255 }
-    ensures { let sides = sides_of H.Host K.Sink F.Folder host.old host.new out.old out.new folder.old folder.new in
+    requires few { length words.once.items ≤ 255 }
+    requires askable { AreAskable words.once.items }
+    ensures { let sides = sides_of H.Host K.Sink F.EventFiles host.old host.new out.old out.new files.old files.new in
         Ends ⟦<[u8; 32] as Ord>⟧.cmp (command_in words.entry) sides result }
 {
-    let filed = words.folder.is_some();
+    let folder = words.folder;
     let answer = match search_words(alloc, host, words, watch) {
         Ok(answer) => answer,
         Err(status) => return Outcome::Ended(status),
     };
-    match write_orders(alloc, folder, filed, &answer) {
+    orders_are_replayed();
+    match write_orders(alloc, files, folder, &answer) {
         Ok(()) => {}
         Err(status) => return Outcome::Ended(status),
     }

@@ -9,7 +9,7 @@ use Rattle.graph_search.specs.Paths.{IsTree, labels_to}
 use Rattle.order_model.specs.declared.failing.Failing.{Failing}
 use Rattle.order_model.specs.Failing.{first_failing}
 use Rattle.xousorders.proofs.EndingLemmas.{node_told}
-use Rattle.xousorders.proofs.ToldLemmas.{shown_there}
+use Rattle.xousorders.proofs.ToldLemmas.{shown_there, within_there}
 use Rattle.xousorders.proofs.RowLemmas.{tellable}
 use Rattle.xousorders.proofs.endings.see.Goals as goal
 
@@ -53,7 +53,7 @@ returns-clause-adds c =
     c.first_failing-fails.ensures told.last stand ∙ ap (λ (list : List Failing). first_failing list told.last) c.deref-3.ensures.value in
     node_told t view c.args.node _ _ c.args.endings.now _ c.requires.ends labels
     (shown_there t view c.args.node told _ _ _ c.new-seen.ensures.items (c.in_ok-put_seen.ensures told.last stand) fails)
-    c.in_ok-add.ensures
+    (within_there t c.args.node told _ _ stand c.in-Ok.ensures.within) c.in_ok-add.ensures
 
 pub returns-in-Err-clause-stopped : goal.returns-in-Err-clause-stopped
 returns-in-Err-clause-stopped c = c.unplayed.ensures c.args.quest.now.subject c.in-Err.ensures.fault
