@@ -2,6 +2,7 @@ mod ChoiceLemmas
 pub mod Counting
 pub mod EdgeLemmas
 pub mod ExitLemmas
+mod FailingLemmas
 pub mod InterleavingLemmas
 pub mod MoveLemmas
 pub mod Moving

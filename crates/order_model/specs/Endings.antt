@@ -3,6 +3,7 @@ use Rattle.std.specs.Prelude.{◌≡◌, ℕ, ◌+◌, ◌==◌, ◌&&◌, ◌||
 use Rattle.std.specs.List.{list_any}
 use Rattle.std.specs.Option.{option_and_then, option_map, option_map_or}
 use Rattle.order_model.specs.declared.exits.Exit.{Exit}
+use Rattle.order_model.specs.declared.failing.Failing.{Failing}
 use Rattle.xk_base.specs.declared.ids.Number.{Number}
 use Rattle.xk_base.specs.declared.ids.Pid.{Pid}
 use Rattle.xk_base.specs.declared.ids.Sid.{Sid}
@@ -13,6 +14,7 @@ use Rattle.xk_base.specs.Tables.Counting.{least_below, listed_below}
 use Rattle.machine_model.specs.Messaging.Messages.{is_of_number}
 use Rattle.machine_model.specs.State.Machine.{Idle, Joining, Machine, Ready, Receiving, Server, ThreadState, Waiting}
 use Rattle.machine_model.specs.State.Order.{ready_at}
+use Rattle.order_model.specs.Failing.{first_failing}
 use Rattle.order_model.specs.Moves.{Asked, Point, is_at_bound}
 use Rattle.order_model.specs.Nodes.{node_of}
 
@@ -94,10 +96,14 @@ is_busy _ = true
 abbrev pub is_busy_of : Machine → Pid → ThreadId → Bool
 is_busy_of m pid who = (who.pid.0 == pid.0) && option_map_or (λ thread. is_busy thread.state) (m.threads who) false
 
+-- what its threads are about
+abbrev pub threads_seen : Machine → Pid → List (ThreadId × ThreadSeen)
+threads_seen m pid = map (thread_seen m) (listed_ids m.processes (is_busy_of m pid))
+
 abbrev pub process_seen : Machine → (ℕ → Option Exit) → Pid → ProcessSeen
 process_seen m exits pid = record {
   pid = pid;
-  life = if (m.process pid.0).alive then Lives (map (thread_seen m) (listed_ids m.processes (is_busy_of m pid))) else IsGone (exits pid.0);
+  life = if (m.process pid.0).alive then Lives (threads_seen m pid) else IsGone (exits pid.0);
 }
 
 -- what is seen of a point: the bytes of the console, what the threads of living processes are about, and what the others ended with
@@ -109,9 +115,10 @@ seen_of p = record {
 
 -- ---- laws
 
--- **All points of a node are seen alike**, end orders alike, and have the same slices.
+-- **All points of a node are seen alike**, fail alike, end orders alike, and have the same slices.
 pub record AreSeenAlike (asked : Asked) (p : Point) : Type 0 where
   pub seen : seen_of (node_of asked p) ≡ seen_of p
+  pub failing : (list : List Failing) → first_failing list (node_of asked p) ≡ first_failing list p
   pub ending : is_ending asked (node_of asked p).state ≡ is_ending asked p.state
   pub turns : turns_at asked (node_of asked p).state ≡ turns_at asked p.state
 

@@ -4,6 +4,7 @@ pub mod Counts
 pub mod Edges
 pub mod Endings
 pub mod Exits
+pub mod Failing
 pub mod Moves
 pub mod Nodes
 pub mod Orders

@@ -40,7 +40,7 @@ pub fn orders_are_paths()
 {}
 
 /// **All points of a node are seen alike**: the bytes of the console, what the threads of living processes are about, and what the others
-/// ended with. They end orders alike, and have the same slices.
+/// ended with. They fail alike, end orders alike, and have the same slices.
 pub fn nodes_are_seen_alike()
     ensures { NodesAreSeenAlike }
 {}

@@ -22,7 +22,7 @@ fn is_row_of(row: &ThreadRow, who: ThreadId) -> bool
 }
 
 /// The row of the thread of this id.
-fn row_of(threads: &[ThreadRow], who: ThreadId) -> Option<ThreadRow>
+pub(crate) fn row_of(threads: &[ThreadRow], who: ThreadId) -> Option<ThreadRow>
     ensures { result ≡ find (λ t. t.pid == who.pid.0 && t.tid == who.tid.0) threads.now }
 {
     threads.iter().copied().find(|row| is_row_of(row, who))

@@ -1,4 +1,5 @@
 pub mod Consoles
+pub mod Failings
 pub mod Names
 pub mod Rows
 pub mod Texts

@@ -82,31 +82,41 @@ pub fn busy_ids(alloc: Global, state: &State, pid: Pid) -> Result<Vec<ThreadId>,
 }
 
 /// Appends what is seen of a thread.
-fn put_seen_thread(text: &mut Vec<u8>, state: &State, who: ThreadId) -> Result<(), AllocError>
+fn put_seen_thread(
+    text: &mut Vec<u8>,
+    named: bool,
+    state: &State,
+    who: ThreadId,
+) -> Result<(), AllocError>
     requires { AreTellable state.now }
     ensures { (file : List ℕ) → OnOk result (text.new.items
-        ≡ text.old.items ++ thread_seen_text (thread_seen (machine_of file state.now) who)) }
+        ≡ text.old.items ++ thread_seen_text named (thread_seen (machine_of file state.now) who)) }
 {
     put_thread(text, u32::from(who.pid.0), u32::from(who.tid.0))?;
     match row_of(state.threads.as_slice(), who) {
-        Some(row) => put_about(text, state, u32::from(who.pid.0), &row),
+        Some(row) => put_about(text, named, state, u32::from(who.pid.0), &row),
         None => put(text, b" idle"),
     }
 }
 
-/// Appends what is seen of these threads, with commas between them.
-pub fn put_threads(text: &mut Vec<u8>, state: &State, ids: &[ThreadId]) -> Result<(), AllocError>
+/// Appends what is seen of these threads, with commas between them. Servers are told by their names, where `named` asks for that.
+pub fn put_threads(
+    text: &mut Vec<u8>,
+    named: bool,
+    state: &State,
+    ids: &[ThreadId],
+) -> Result<(), AllocError>
     requires { AreTellable state.now }
     ensures { (file : List ℕ) → OnOk result (text.new.items
-        ≡ text.old.items ++ join_by (λ who. thread_seen_text (thread_seen (machine_of file state.now) who)) (codes ", ") ids.now) }
+        ≡ text.old.items ++ join_by (λ who. thread_seen_text named (thread_seen (machine_of file state.now) who)) (codes ", ") ids.now) }
 {
     let Some((first, others)) = ids.split_first() else {
         return Ok(());
     };
-    put_seen_thread(text, state, *first)?;
+    put_seen_thread(text, named, state, *first)?;
     for who in others {
         put(text, b", ")?;
-        put_seen_thread(text, state, *who)?;
+        put_seen_thread(text, named, state, *who)?;
     }
     Ok(())
 }

@@ -1,5 +1,5 @@
 -- How a call ends, by what its parts say.
-use Rattle.std.proofs.Common.{◌≡◌, ◌≤◌, ◌⊎◌, inl, inr, ℕ, Bool, true, false, List, length, None, Option, Some, Result, Ok, Err, IfErr, IsErrAnd, IsSome, is_some, refl, sym, ap, subst, ◌∙◌, arith}
+use Rattle.std.proofs.Common.{◌≡◌, ◌≤◌, ◌⊎◌, inl, inr, ℕ, Bool, true, false, List, None, Option, Some, Result, Ok, Err, IfErr, IsErrAnd, IsSome, is_some, refl, sym, ap, subst, ◌∙◌, arith}
 use Rattle.std.proofs.lemmas.Bool.{false≢true}
 use Rattle.std.specs.declared.cmp.Ordering.{Ordering}
 use Rattle.boot_plan.specs.ImageFault.{IsImageFault}
@@ -14,9 +14,11 @@ use Rattle.order_search.specs.declared.quest.OrderFault.TheVariants.{Line, Steps
 use Rattle.order_search.specs.declared.subject.Subject.{Subject}
 use Rattle.order_search.specs.Faults.{IsFault, IsRunFault}
 use Rattle.xousorders.specs.Asked.{Asking, HostFiles, IsAsked, IsTooLong, RefusesEvents, RefusesImage, Stops}
-use Rattle.xousorders.specs.Calls.{Command, Ends, IsUnwritten, Report, Sides, TellsSearch, files_in, lines_in}
-use Rattle.xousorders.specs.Outcomes.{IsUnfiled, is_several, outcome_of}
+use Rattle.xousorders.specs.Calls.{Command, Ends, IsUnwritten, Report, Sides, TellsSearch, WritesFiles, lines_in, outcome_in}
+use Rattle.xousorders.specs.Failures.{asks_failure, tells_failure}
+use Rattle.xousorders.specs.Outcomes.{IsUnfiled, is_whole, outcome_of, passed}
 use Rattle.xousorders.specs.Searched.{IsSearched, IsStopped}
+use Rattle.xousorders.proofs.FailureLemmas.{failure_told, is_cut, passes_unasked, passes_whole}
 use Rattle.xousorders.specs.declared.outcome.Outcome.{Outcome}
 use Rattle.xousorders.specs.declared.outcome.Outcome.TheVariants.{Ended}
 
@@ -159,17 +161,33 @@ module _ (cmp : List ℕ → List ℕ → Ordering) (command : Command) (sides :
 
   -- with all told
   pub told_ends : (report : Report) (text bytes : List ℕ) (outcome : Outcome) → TellsSearch cmp sides.files command text report → bytes ≡ text
-      → Grows sides.written sides.written_after bytes → Grows sides.filed sides.filed_after (files_in command.filed report)
-      → outcome ≡ outcome_of (is_several command.one (length report.endings.list.items)) → Ends cmp command sides outcome
-  told_ends report text bytes outcome told same written filed is =
-      subst (Ends cmp command sides) (sym is) (go (is_several command.one (length report.endings.list.items)) refl)
+      → Grows sides.written sides.written_after bytes → WritesFiles command sides report
+      → outcome ≡ outcome_in command report → Ends cmp command sides outcome
+  told_ends report text bytes outcome told same written filed is = subst (Ends cmp command sides) (sym is) (go tells refl)
     where
-      exactly : Grows sides.written sides.written_after (lines_in report)
+      exactly : Grows sides.written sides.written_after (lines_in command report)
       exactly = subst (Grows sides.written sides.written_after) (same ∙ told.lines) written
 
-      go : (several : Bool) → is_several command.one (length report.endings.list.items) ≡ several → Ends cmp command sides (outcome_of several)
-      go true e = record { report = report; right = told.right; written = exactly; filed = filed; is = e }
-      go false e = record { report = report; right = told.right; written = exactly; filed = filed; is = e }
+      tells : Bool
+      tells = tells_failure command.view.fails.items command.differ report.endings.list.items
+
+      asks : Bool
+      asks = asks_failure command.view.fails.items command.differ
+
+      whole : Bool
+      whole = is_whole report.finding.extent
+
+      by : tells ≡ false → (a w : Bool) → asks ≡ a → whole ≡ w → Ends cmp command sides (passed a w)
+      by none true true e f =
+          record { report = report; right = told.right; written = exactly; filed = filed; is = passes_whole command report none cmp told.right.so.most told.right.so.so f }
+      by none false w e f =
+          record { report = report; right = told.right; written = exactly; filed = filed; is = passes_unasked command report none cmp told.right.so.most told.right.so.so e }
+      by none true false e f =
+          record { report = report; right = told.right; written = exactly; filed = filed; is = is_cut command report none cmp told.right.so.most told.right.so.so e f }
+
+      go : (t : Bool) → tells ≡ t → Ends cmp command sides (outcome_of t asks whole)
+      go true e = record { report = report; right = told.right; written = exactly; filed = filed; is = failure_told command report e }
+      go false e = by e asks whole refl refl
 
   -- with a part of it told
   pub part_ends : (report : Report) (text bytes : List ℕ) → TellsSearch cmp sides.files command text report → bytes ≡ text

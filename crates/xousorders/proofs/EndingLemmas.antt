@@ -2,40 +2,25 @@
 use Rattle.std.proofs.Common.{◌≡◌, ◌<◌, ◌≤◌, ◌+◌, ◌⊎◌, ◌∙◌, inl, inr, ℕ, zero, suc, Bool, true, false, List, [], ◌∷◌, ◌++◌, length, map, Option, Some, None, refl, sym, ap, subst, arith}
 use Rattle.std.specs.Prelude.{All, slice_get, get_or, filter, ◌==◌, ◌&&◌, if◌then◌else◌}
 use Rattle.std.specs.Option.{option_map_or}
-use Rattle.std.specs.Str.{bytes_eq}
-use Rattle.std.specs.declared.cmp.Ordering.{Ordering}
 use Rattle.std.proofs.lemmas.Bool.{false_from_ne_true, false≢true}
 use Rattle.std.proofs.lemmas.Bool.Decides.{Decides-eqb}
 use Rattle.std.proofs.lemmas.List.{append-nil, length-append, map-append}
 use Rattle.std.proofs.lemmas.List.Elements.{All-append, All-cons, All-nil, filter-append}
-use Rattle.std.proofs.lemmas.Option.{get_or_from_slice_get, none-some, same_Some, slice_get_read, slice_get_within}
-use Rattle.std.proofs.lemmas.Slice.Eq.{bytes_eq-Decides}
-use Rattle.machine_model.specs.Runs.Matched.{Matched}
-use Rattle.order_model.proofs.Moving.SearchLemmas.{paths_are_orders}
-use Rattle.order_model.proofs.Moving.SeenLemmas.{nodes_are_seen_alike}
+use Rattle.std.proofs.lemmas.Option.{none-some, same_Some, slice_get_read, slice_get_within}
 use Rattle.order_model.specs.declared.moves.Move.{Move}
 use Rattle.order_model.specs.declared.moves.Note.{Note}
-use Rattle.order_model.specs.Endings.{is_ending, seen_of}
-use Rattle.order_model.specs.Moves.{Point, leads_by}
-use Rattle.order_model.specs.Nodes.{after, node_of}
-use Rattle.order_model.specs.Searches.{IsPointTold, IsSound, IsToldOrder, Telling, note_of}
-use Rattle.order_search.specs.declared.subject.Subject.{Subject}
-use Rattle.order_search.specs.Found.{FindsAllOrders, FindsNodes, TellsAllOrders, TellsOrders, finding_of, telling_in}
-use Rattle.order_search.specs.Quests.{start_of}
-use Rattle.order_text.specs.Texts.{seen_text}
+use Rattle.order_model.specs.Searches.{Telling}
 use Rattle.graph_search.proofs.ListLemmas.{IsBehind, front_or_behind, slice_get-behind, slice_get-front}
-use Rattle.graph_search.proofs.PathLemmas.{later_no_shorter}
 use Rattle.graph_search.specs.Paths.{labels_to}
-use Rattle.graph_search.specs.Told.{IsFound}
 use Rattle.xk_base.proofs.CountingLemmas.{count_below-none}
 use Rattle.xk_base.specs.Tables.Counting.{count_below, listed_below}
-use Rattle.xousorders.specs.Calls.{SaysSo, report_of}
-use Rattle.xousorders.specs.Endings.{Adds, AreDifferent, AreEndings, AreShortest, IsAt, IsEndingOf, IsFirst, IsLook, IsNew, Lists, NoneIs, TellsAllEndings, TellsEndings}
-use Rattle.xousorders.specs.Endings.{ends_at, looks_at, node_text, nodes_like}
+use Rattle.xousorders.proofs.ShownLemmas.{same_shown-Decides}
+use Rattle.xousorders.specs.Endings.{Adds, AreDifferent, AreEndings, IsAt, IsEndingOf, IsFirst, IsLook, IsNew, IsWithin, Lists, NoneIs, Shown}
+use Rattle.xousorders.specs.Endings.{ends_at, looks_at, node_shown, nodes_like, same_shown, shown_in}
 use Rattle.xousorders.specs.declared.endings.Ending.{Ending}
 use Rattle.xousorders.specs.declared.endings.Endings.{Endings}
 use Rattle.xousorders.specs.declared.endings.Look.{Look}
-use Rattle.xousorders.specs.declared.run.Told.{Told}
+use Rattle.xousorders.specs.declared.view.View.{View}
 
 -- ---- tests
 
@@ -49,12 +34,12 @@ both true b e = (refl, e)
 both false b e = absurd (false≢true e)
 
 -- there is a note that orders end
-record HasEnd (o : Option Note) : Type 0 where
-  note : Note
-  is : o ≡ Some note
-  ends : note.ends ≡ true
+pub record HasEnd (o : Option Note) : Type 0 where
+  pub note : Note
+  pub is : o ≡ Some note
+  pub ends : note.ends ≡ true
 
-ended : (o : Option Note) → option_map_or (λ (note : Note). note.ends) o false ≡ true → HasEnd o
+pub ended : (o : Option Note) → option_map_or (λ (note : Note). note.ends) o false ≡ true → HasEnd o
 ended None e = absurd (false≢true e)
 ended (Some note) e = record { note = note; is = refl; ends = e }
 
@@ -84,24 +69,23 @@ one_look looks look place =
     ∙ (length-append (filter f looks) (filter f (look ∷ []))
     ∙ ap (λ (n : ℕ). length (filter f looks) + n) (one_length look (look.ending == place)))
 
--- ---- endings by their texts
+-- ---- endings by how they are told
 
--- the ending at a place has one text
-one_text : (list : List Ending) (place : ℕ) (one other : List ℕ) → IsAt list place one → IsAt list place other → one ≡ other
-one_text list place one other a b =
-    sym a.alike ∙ (ap (λ (e : Ending). e.seen.items) (same_Some a.ending b.ending (sym a.there ∙ b.there)) ∙ b.alike)
+-- the ending at a place is told in one way
+pub one_shown : (list : List Ending) (place : ℕ) (one other : Shown) → IsAt list place one → IsAt list place other → one ≡ other
+one_shown list place one other a b = sym a.alike ∙ (ap shown_in (same_Some a.ending b.ending (sym a.there ∙ b.there)) ∙ b.alike)
 
 -- an ending stays where it was
-at_front : (old more : List Ending) (place : ℕ) (text : List ℕ) → IsAt old place text → IsAt (old ++ more) place text
-at_front old more place text at = record {
+at_front : (old more : List Ending) (place : ℕ) (shown : Shown) → IsAt old place shown → IsAt (old ++ more) place shown
+at_front old more place shown at = record {
   ending = at.ending;
   there = slice_get-front old more place (slice_get_within old place at.ending at.there) ∙ at.there;
   alike = at.alike;
 }
 
 -- the last ending
-pub at_end : (old : List Ending) (last : Ending) (text : List ℕ) → last.seen.items ≡ text → IsAt (old ++ last ∷ []) (length old) text
-at_end old last text alike =
+pub at_end : (old : List Ending) (last : Ending) (shown : Shown) → shown_in last ≡ shown → IsAt (old ++ last ∷ []) (length old) shown
+at_end old last shown alike =
     let at : length old ≡ length old + 0 = omega arith in
     record {
       ending = last;
@@ -109,48 +93,47 @@ at_end old last text alike =
       alike = alike;
     }
 
-pub pushed_at : (old new : List Ending) (last : Ending) (place : ℕ) (text : List ℕ) → new ≡ old ++ last ∷ [] → place ≡ length old
-    → last.seen.items ≡ text → IsAt new place text
-pushed_at old new last place text is at alike =
-    subst (λ (es : List Ending). IsAt es place text) (sym is)
-    (subst (λ (n : ℕ). IsAt (old ++ last ∷ []) n text) (sym at) (at_end old last text alike))
+pub pushed_at : (old new : List Ending) (last : Ending) (place : ℕ) (shown : Shown) → new ≡ old ++ last ∷ [] → place ≡ length old
+    → shown_in last ≡ shown → IsAt new place shown
+pushed_at old new last place shown is at alike =
+    subst (λ (es : List Ending). IsAt es place shown) (sym is)
+    (subst (λ (n : ℕ). IsAt (old ++ last ∷ []) n shown) (sym at) (at_end old last shown alike))
 
--- the ending that was read at a place looks as its bytes say
-pub read_at : (list : List Ending) (place : ℕ) (ending : Ending) (text : List ℕ) → place < length list → ending ≡ get_or list place ending
-    → (get_or list place ending).seen.items ≡ text → IsAt list place text
-read_at list place ending text low is alike = record {
-  ending = ending;
-  there = slice_get_read list (length list) place ending refl low is;
-  alike = ap (λ (e : Ending). e.seen.items) is ∙ alike;
-}
+-- the ending that was read at a place is told as a test says
+module _ (list : List Ending) (place : ℕ) (ending : Ending) (low : place < length list) (is : ending ≡ get_or list place ending) where
+  pub read_at : (shown : Shown) → shown_in ending ≡ shown → IsAt list place shown
+  read_at shown alike = record {
+    ending = ending;
+    there = slice_get_read list (length list) place ending refl low is;
+    alike = alike;
+  }
 
-pub not_at : (list : List Ending) (place : ℕ) (ending : Ending) (text other : List ℕ) → place < length list → ending ≡ get_or list place ending
-    → text ≡ (get_or list place ending).seen.items → bytes_eq text other ≡ false → IsAt list place other → ⊥
-not_at list place ending text other low is alike differ at =
-    let same = one_text list place text other (read_at list place ending text low is (sym alike)) at in
-    false≢true (sym differ ∙ (bytes_eq-Decides text other).1 same)
+  pub not_at : (other : Shown) → same_shown (shown_in ending) other ≡ false → IsAt list place other → ⊥
+  not_at other differ at =
+      let same = one_shown list place (shown_in ending) other (read_at (shown_in ending) refl) at in
+      false≢true (sym differ ∙ (same_shown-Decides (shown_in ending) other).1 same)
 
 -- an ending was there, or is the last
-abbrev IsEither : List Ending → Ending → ℕ → List ℕ → Type 0
-IsEither old last place text = IsAt old place text ⊎ ((place ≡ length old) × (last.seen.items ≡ text))
+abbrev IsEither : List Ending → Ending → ℕ → Shown → Type 0
+IsEither old last place shown = IsAt old place shown ⊎ ((place ≡ length old) × (shown_in last ≡ shown))
 
-at_either : (old : List Ending) (last : Ending) (place : ℕ) (text : List ℕ) → IsAt (old ++ last ∷ []) place text → IsEither old last place text
-at_either old last place text at = go (front_or_behind old (last ∷ []) place at.ending at.there)
+at_either : (old : List Ending) (last : Ending) (place : ℕ) (shown : Shown) → IsAt (old ++ last ∷ []) place shown → IsEither old last place shown
+at_either old last place shown at = go (front_or_behind old (last ∷ []) place at.ending at.there)
   where
-    only : (k : ℕ) → place ≡ length old + k → slice_get (last ∷ []) k ≡ Some at.ending → (place ≡ length old) × (last.seen.items ≡ text)
-    only zero sum is = (omega (arith, sum), ap (λ (e : Ending). e.seen.items) (same_Some last at.ending is) ∙ at.alike)
+    only : (k : ℕ) → place ≡ length old + k → slice_get (last ∷ []) k ≡ Some at.ending → (place ≡ length old) × (shown_in last ≡ shown)
+    only zero sum is = (omega (arith, sum), ap shown_in (same_Some last at.ending is) ∙ at.alike)
     only (suc k) sum is = absurd (none-some at.ending is)
 
-    go : (slice_get old place ≡ Some at.ending) ⊎ IsBehind old (last ∷ []) place at.ending → IsEither old last place text
+    go : (slice_get old place ≡ Some at.ending) ⊎ IsBehind old (last ∷ []) place at.ending → IsEither old last place shown
     go (inl there) = inl (record { ending = at.ending; there = there; alike = at.alike })
     go (inr behind) = inr (only behind.place behind.sum behind.is)
 
 -- endings stay different where the last one looks as none did
-different_on : (old : List Ending) (last : Ending) (text : List ℕ) → last.seen.items ≡ text → NoneIs old text → AreDifferent old
+different_on : (old : List Ending) (last : Ending) (shown : Shown) → shown_in last ≡ shown → NoneIs old shown → AreDifferent old
     → AreDifferent (old ++ last ∷ [])
-different_on old last text is none differ j k other at_j at_k = go (at_either old last j other at_j) (at_either old last k other at_k)
+different_on old last shown is none differ j k other at_j at_k = go (at_either old last j other at_j) (at_either old last k other at_k)
   where
-    like : (place : ℕ) → IsAt old place other → last.seen.items ≡ other → IsAt old place text
+    like : (place : ℕ) → IsAt old place other → shown_in last ≡ other → IsAt old place shown
     like place at same = subst (IsAt old place) (sym same ∙ is) at
 
     go : IsEither old last j other → IsEither old last k other → j ≡ k
@@ -159,53 +142,53 @@ different_on old last text is none differ j k other at_j at_k = go (at_either ol
     go (inr a) (inl b) = absurd (none k (like k b a.1))
     go (inr a) (inr b) = a.0 ∙ sym b.0
 
-module _ (t : Telling) where
+module _ (t : Telling) (view : View) where
   -- ---- none yet
 
-  nothing_at : (list : List Ending) (place : ℕ) (text : List ℕ) → list ≡ [] → IsAt list place text → ⊥
-  nothing_at list place text none at = none-some at.ending (ap (λ (es : List Ending). slice_get es place) (sym none) ∙ at.there)
+  nothing_at : (list : List Ending) (place : ℕ) (shown : Shown) → list ≡ [] → IsAt list place shown → ⊥
+  nothing_at list place shown none at = none-some at.ending (ap (λ (es : List Ending). slice_get es place) (sym none) ∙ at.there)
 
-  pub no_endings : (endings : Endings) → endings.list.items ≡ [] → endings.looks.items ≡ [] → AreEndings t 0 endings
+  pub no_endings : (endings : Endings) → endings.list.items ≡ [] → endings.looks.items ≡ [] → AreEndings t view 0 endings
   unfolding listed_below
   no_endings endings none no_looks = record {
-    each = subst (All (IsEndingOf t)) (sym none) (All-nil (IsEndingOf t));
+    each = subst (All (IsEndingOf t view)) (sym none) (All-nil (IsEndingOf t view));
     first = λ place ending at. absurd (none-some ending (ap (λ (es : List Ending). slice_get es place) (sym none) ∙ at));
-    different = λ j k text at_j at_k. absurd (nothing_at endings.list.items j text none at_j);
+    different = λ j k shown at_j at_k. absurd (nothing_at endings.list.items j shown none at_j);
     all = λ node low ends. absurd (let no : ⊥ = omega (arith, low) in no);
     nodes = ap (λ (ls : List Look). map (λ (l : Look). l.node) ls) no_looks;
-    counts = λ place text at. absurd (nothing_at endings.list.items place text none at);
+    counts = λ place shown at. absurd (nothing_at endings.list.items place shown none at);
     beyond = λ place far. ap (λ (ls : List Look). looks_at ls place) no_looks;
   }
 
   -- ---- one node after another
 
-  abbrev is_like : List ℕ → ℕ → Bool
-  is_like text node = ends_at t node && bytes_eq (node_text t node) text
+  abbrev is_like : Shown → ℕ → Bool
+  is_like shown node = ends_at t node && same_shown (node_shown t view node) shown
 
-  nodes_on : (n : ℕ) (text : List ℕ) → nodes_like t (n + 1) text ≡ nodes_like t n text + (if is_like text n then 1 else 0)
+  nodes_on : (n : ℕ) (shown : Shown) → nodes_like t view (n + 1) shown ≡ nodes_like t view n shown + (if is_like shown n then 1 else 0)
   unfolding nodes_like
-  nodes_on n text = counted_on n (is_like text)
+  nodes_on n shown = counted_on n (is_like shown)
 
   -- where no ending looks so, no node does
-  none_like : (n : ℕ) (text : List ℕ) (endings : Endings)
-      → ((node : ℕ) → node < n → ends_at t node ≡ true → IsLook t endings node) → NoneIs endings.list.items text
-      → nodes_like t n text ≡ 0
+  none_like : (n : ℕ) (shown : Shown) (endings : Endings)
+      → ((node : ℕ) → node < n → ends_at t node ≡ true → IsLook t view endings node) → NoneIs endings.list.items shown
+      → nodes_like t view n shown ≡ 0
   unfolding nodes_like
-  none_like n text endings all none = count_below-none n (is_like text) (λ k low. false_from_ne_true (is_like text k) (λ e.
-      let parts = both (ends_at t k) (bytes_eq (node_text t k) text) e in
+  none_like n shown endings all none = count_below-none n (is_like shown) (λ k low. false_from_ne_true (is_like shown k) (λ e.
+      let parts = both (ends_at t k) (same_shown (node_shown t view k) shown) e in
       let look = all k low parts.0 in
       none look.look.ending
-      (subst (IsAt endings.list.items look.look.ending) ((bytes_eq-Decides (node_text t k) text).0 parts.1) look.alike)))
+      (subst (IsAt endings.list.items look.look.ending) ((same_shown-Decides (node_shown t view k) shown).0 parts.1) look.alike)))
 
   -- a node was told
-  module _ (node : ℕ) (order : List Move) (text : List ℕ) (old new : Endings) (adds : Adds node order text old new) where
+  module _ (node : ℕ) (order : List Move) (shown : Shown) (old new : Endings) (adds : Adds node order shown old new) where
     abbrev added : Look
     added = record { node = node; ending = adds.place }
 
-    kept : (place : ℕ) (other : List ℕ) → IsAt old.list.items place other → IsAt new.list.items place other
+    kept : (place : ℕ) (other : Shown) → IsAt old.list.items place other → IsAt new.list.items place other
     kept place other at = go adds.list
       where
-        go : Lists node order text old.list.items new.list.items → IsAt new.list.items place other
+        go : Lists node order shown old.list.items new.list.items → IsAt new.list.items place other
         go (inl same) = subst (λ (es : List Ending). IsAt es place other) (sym same) at
         go (inr more) =
             subst (λ (es : List Ending). IsAt es place other) (sym more.list) (at_front old.list.items (more.ending ∷ []) place other at)
@@ -213,7 +196,7 @@ module _ (t : Telling) where
     grown : length old.list.items ≤ length new.list.items
     grown = go adds.list
       where
-        go : Lists node order text old.list.items new.list.items → length old.list.items ≤ length new.list.items
+        go : Lists node order shown old.list.items new.list.items → length old.list.items ≤ length new.list.items
         go (inl same) = let e : length new.list.items ≡ length old.list.items = ap length same in omega (arith, e)
         go (inr more) =
             let e : length new.list.items ≡ length (old.list.items ++ more.ending ∷ []) = ap length more.list in
@@ -223,13 +206,13 @@ module _ (t : Telling) where
     differ : AreDifferent old.list.items → AreDifferent new.list.items
     differ before = go adds.list
       where
-        go : Lists node order text old.list.items new.list.items → AreDifferent new.list.items
+        go : Lists node order shown old.list.items new.list.items → AreDifferent new.list.items
         go (inl same) = subst AreDifferent (sym same) before
         go (inr more) =
-            subst AreDifferent (sym more.list) (different_on old.list.items more.ending text more.alike more.none before)
+            subst AreDifferent (sym more.list) (different_on old.list.items more.ending shown more.alike more.none before)
 
     -- a look stays one, and the new one is
-    look_kept : (other : ℕ) → IsLook t old other → IsLook t new other
+    look_kept : (other : ℕ) → IsLook t view old other → IsLook t view new other
     look_kept other look =
         let there = slice_get_within old.looks.items look.place look.look look.is in
         record {
@@ -238,11 +221,11 @@ module _ (t : Telling) where
           is = ap (λ (ls : List Look). slice_get ls look.place) adds.looks
               ∙ (slice_get-front old.looks.items (added ∷ []) look.place there ∙ look.is);
           of_node = look.of_node;
-          alike = kept look.look.ending (node_text t other) look.alike;
+          alike = kept look.look.ending (node_shown t view other) look.alike;
         }
 
-    last_look : text ≡ node_text t node → IsLook t new node
-    last_look shown =
+    last_look : shown ≡ node_shown t view node → IsLook t view new node
+    last_look as_there =
         let at : length old.looks.items ≡ length old.looks.items + 0 = omega arith in
         record {
           place = length old.looks.items;
@@ -250,51 +233,51 @@ module _ (t : Telling) where
           is = ap (λ (ls : List Look). slice_get ls (length old.looks.items)) adds.looks
               ∙ (ap (λ (n : ℕ). slice_get (old.looks.items ++ added ∷ []) n) at ∙ slice_get-behind old.looks.items (added ∷ []) 0);
           of_node = refl;
-          alike = subst (IsAt new.list.items adds.place) shown adds.alike;
+          alike = subst (IsAt new.list.items adds.place) as_there adds.alike;
         }
 
     looks_on : (place : ℕ) → looks_at new.looks.items place ≡ looks_at old.looks.items place + (if adds.place == place then 1 else 0)
     looks_on place = ap (λ (ls : List Look). looks_at ls place) adds.looks ∙ one_look old.looks.items added place
 
     -- .. as the count of the nodes that look so
-    module _ (ends : ends_at t node ≡ true) (shown : text ≡ node_text t node) (are : AreEndings t node old) where
-      counted_before : (place : ℕ) (other : List ℕ) → IsAt new.list.items place other
-          → looks_at old.looks.items place ≡ nodes_like t node other
+    module _ (ends : ends_at t node ≡ true) (as_there : shown ≡ node_shown t view node) (are : AreEndings t view node old) where
+      counted_before : (place : ℕ) (other : Shown) → IsAt new.list.items place other
+          → looks_at old.looks.items place ≡ nodes_like t view node other
       counted_before place other at = go adds.list
         where
-          last : (more : IsNew node order text old.list.items new.list.items) → IsEither old.list.items more.ending place other
-              → looks_at old.looks.items place ≡ nodes_like t node other
+          last : (more : IsNew node order shown old.list.items new.list.items) → IsEither old.list.items more.ending place other
+              → looks_at old.looks.items place ≡ nodes_like t view node other
           last more (inl before) = are.counts place other before
           last more (inr here) =
               let far : length old.list.items ≤ place = (let e = here.0 in omega (arith, e)) in
               let none : NoneIs old.list.items other = subst (NoneIs old.list.items) (sym more.alike ∙ here.1) more.none in
               are.beyond place far ∙ sym (none_like node other old are.all none)
 
-          go : Lists node order text old.list.items new.list.items → looks_at old.looks.items place ≡ nodes_like t node other
+          go : Lists node order shown old.list.items new.list.items → looks_at old.looks.items place ≡ nodes_like t view node other
           go (inl same) = are.counts place other (subst (λ (es : List Ending). IsAt es place other) same at)
           go (inr more) =
               last more
               (at_either old.list.items more.ending place other (subst (λ (es : List Ending). IsAt es place other) more.list at))
 
-      tests : (place : ℕ) (other : List ℕ) → IsAt new.list.items place other → (adds.place == place) ≡ is_like other node
+      tests : (place : ℕ) (other : Shown) → IsAt new.list.items place other → (adds.place == place) ≡ is_like other node
       tests place other at = same_tests (adds.place == place) (is_like other node) to back
         where
           to : (adds.place == place) ≡ true → is_like other node ≡ true
           to e =
-              let here : IsAt new.list.items place text =
-              subst (λ (k : ℕ). IsAt new.list.items k text) ((Decides-eqb adds.place place).0 e) adds.alike in
-              let same : bytes_eq (node_text t node) other ≡ true =
-              (bytes_eq-Decides (node_text t node) other).1 (sym shown ∙ one_text new.list.items place text other here at) in
+              let here : IsAt new.list.items place shown =
+              subst (λ (k : ℕ). IsAt new.list.items k shown) ((Decides-eqb adds.place place).0 e) adds.alike in
+              let same : same_shown (node_shown t view node) other ≡ true =
+              (same_shown-Decides (node_shown t view node) other).1 (sym as_there ∙ one_shown new.list.items place shown other here at) in
               λ i. ends i && same i
 
           back : is_like other node ≡ true → (adds.place == place) ≡ true
           back e =
-              let same = (bytes_eq-Decides (node_text t node) other).0 (both (ends_at t node) (bytes_eq (node_text t node) other) e).1 in
-              let there : IsAt new.list.items adds.place other = subst (IsAt new.list.items adds.place) (shown ∙ same) adds.alike in
+              let same = (same_shown-Decides (node_shown t view node) other).0 (both (ends_at t node) (same_shown (node_shown t view node) other) e).1 in
+              let there : IsAt new.list.items adds.place other = subst (IsAt new.list.items adds.place) (as_there ∙ same) adds.alike in
               (Decides-eqb adds.place place).1 (differ are.different adds.place place other there at)
 
-      counts_on : (place : ℕ) (other : List ℕ) → IsAt new.list.items place other
-          → looks_at new.looks.items place ≡ nodes_like t (node + 1) other
+      counts_on : (place : ℕ) (other : Shown) → IsAt new.list.items place other
+          → looks_at new.looks.items place ≡ nodes_like t view (node + 1) other
       counts_on place other at =
           looks_on place
           ∙ ((λ i. counted_before place other at i + (if tests place other at i then 1 else 0)) ∙ sym (nodes_on node other))
@@ -319,13 +302,13 @@ module _ (t : Telling) where
   split node other low = grind arith
 
   -- the first that looks so is the first of more nodes too
-  first_on : (node : ℕ) (ending : Ending) → IsFirst t node ending → IsFirst t (node + 1) ending
+  first_on : (node : ℕ) (ending : Ending) → IsFirst t view node ending → IsFirst t view (node + 1) ending
   first_on node ending first = record {
     low = (let low = first.low in omega (arith, low));
     least = λ other low ends same. go other ends same (split node other low);
   }
     where
-      go : (other : ℕ) → ends_at t other ≡ true → node_text t other ≡ ending.seen.items → (other < node) ⊎ (node ≡ other) → ending.first ≤ other
+      go : (other : ℕ) → ends_at t other ≡ true → node_shown t view other ≡ shown_in ending → (other < node) ⊎ (node ≡ other) → ending.first ≤ other
       go other ends same (inl less) = first.least other less ends same
       go other ends same (inr is) = let low = first.low in omega (arith, low, is)
 
@@ -336,27 +319,27 @@ module _ (t : Telling) where
       go (inl less) = absurd (never less)
       go (inr same) = omega (arith, same, is)
 
-  pub node_told : (node : ℕ) (order : List Move) (text : List ℕ) (old new : Endings) → ends_at t node ≡ true
-      → order ≡ labels_to t.edges node → text ≡ node_text t node → Adds node order text old new → AreEndings t node old
-      → AreEndings t (node + 1) new
-  node_told node order text old new ends labels shown adds are = record {
+  pub node_told : (node : ℕ) (order : List Move) (shown : Shown) (old new : Endings) → ends_at t node ≡ true
+      → order ≡ labels_to t.edges node → shown ≡ node_shown t view node → IsWithin t node → Adds node order shown old new
+      → AreEndings t view node old → AreEndings t view (node + 1) new
+  node_told node order shown old new ends labels as_there within adds are = record {
     each = go adds.list;
     first = λ place ending at. firsts adds.list place ending at;
-    different = differ node order text old new adds are.different;
+    different = differ node order shown old new adds are.different;
     all = λ other low at. by_place other at (split node other low);
-    nodes = nodes_told node order text old new adds here shown are;
-    counts = counts_on node order text old new adds here shown are;
-    beyond = beyond_on node order text old new adds are.beyond;
+    nodes = nodes_told node order shown old new adds here as_there are;
+    counts = counts_on node order shown old new adds here as_there are;
+    beyond = beyond_on node order shown old new adds are.beyond;
   }
     where
       here : ends_at t node ≡ true
       here = ends
 
-      on : (ending : Ending) → IsFirst t node ending → IsFirst t (node + 1) ending
+      on : (ending : Ending) → IsFirst t view node ending → IsFirst t view (node + 1) ending
       on ending first = first_on node ending first
 
       -- the new ending is of this node, as no earlier one looks so
-      last : (more : IsNew node order text old.list.items new.list.items) → IsFirst t (node + 1) more.ending
+      last : (more : IsNew node order shown old.list.items new.list.items) → IsFirst t view (node + 1) more.ending
       last more = record {
         low = (let e = more.first in omega (arith, e));
         least = λ other low at same.
@@ -368,38 +351,39 @@ module _ (t : Telling) where
             not_before node other more.ending.first never low e);
       }
 
-      firsts : Lists node order text old.list.items new.list.items → (place : ℕ) (ending : Ending)
-          → slice_get new.list.items place ≡ Some ending → IsFirst t (node + 1) ending
+      firsts : Lists node order shown old.list.items new.list.items → (place : ℕ) (ending : Ending)
+          → slice_get new.list.items place ≡ Some ending → IsFirst t view (node + 1) ending
       firsts (inl same) place ending at =
           on ending (are.first place ending (ap (λ (es : List Ending). slice_get es place) (sym same) ∙ at))
       firsts (inr more) place ending at =
           by (front_or_behind old.list.items (more.ending ∷ []) place ending (ap (λ (es : List Ending). slice_get es place) (sym more.list) ∙ at))
         where
-          only : (k : ℕ) → slice_get (more.ending ∷ []) k ≡ Some ending → IsFirst t (node + 1) ending
-          only zero is = subst (IsFirst t (node + 1)) (same_Some more.ending ending is) (last more)
+          only : (k : ℕ) → slice_get (more.ending ∷ []) k ≡ Some ending → IsFirst t view (node + 1) ending
+          only zero is = subst (IsFirst t view (node + 1)) (same_Some more.ending ending is) (last more)
           only (suc k) is = absurd (none-some ending is)
 
           by : (slice_get old.list.items place ≡ Some ending) ⊎ IsBehind old.list.items (more.ending ∷ []) place ending
-              → IsFirst t (node + 1) ending
+              → IsFirst t view (node + 1) ending
           by (inl there) = on ending (are.first place ending there)
           by (inr behind) = only behind.place behind.is
 
-      go : Lists node order text old.list.items new.list.items → All (IsEndingOf t) new.list.items
-      go (inl same) = subst (All (IsEndingOf t)) (sym same) are.each
+      go : Lists node order shown old.list.items new.list.items → All (IsEndingOf t view) new.list.items
+      go (inl same) = subst (All (IsEndingOf t view)) (sym same) are.each
       go (inr more) =
-          let is : IsEndingOf t more.ending = record {
+          let is : IsEndingOf t view more.ending = record {
             ends = ap (ends_at t) more.first ∙ ends;
             order = more.order_is ∙ (labels ∙ ap (labels_to t.edges) (sym more.first));
-            seen = more.alike ∙ (shown ∙ ap (node_text t) (sym more.first));
+            seen = more.alike ∙ (as_there ∙ ap (node_shown t view) (sym more.first));
+            within = subst (IsWithin t) (sym more.first) within;
           } in
-          subst (All (IsEndingOf t)) (sym more.list)
-          (All-append (IsEndingOf t) old.list.items (more.ending ∷ []) are.each (All-cons (IsEndingOf t) more.ending [] is (All-nil (IsEndingOf t))))
+          subst (All (IsEndingOf t view)) (sym more.list)
+          (All-append (IsEndingOf t view) old.list.items (more.ending ∷ []) are.each (All-cons (IsEndingOf t view) more.ending [] is (All-nil (IsEndingOf t view))))
 
-      by_place : (other : ℕ) → ends_at t other ≡ true → (other < node) ⊎ (node ≡ other) → IsLook t new other
-      by_place other at (inl low) = look_kept node order text old new adds other (are.all other low at)
-      by_place other at (inr same) = subst (IsLook t new) same (last_look node order text old new adds shown)
+      by_place : (other : ℕ) → ends_at t other ≡ true → (other < node) ⊎ (node ≡ other) → IsLook t view new other
+      by_place other at (inl low) = look_kept node order shown old new adds other (are.all other low at)
+      by_place other at (inr same) = subst (IsLook t view new) same (last_look node order shown old new adds as_there)
 
-  pub node_passed : (node : ℕ) (endings : Endings) → ends_at t node ≡ false → AreEndings t node endings → AreEndings t (node + 1) endings
+  pub node_passed : (node : ℕ) (endings : Endings) → ends_at t node ≡ false → AreEndings t view node endings → AreEndings t view (node + 1) endings
   node_passed node endings inner are = record {
     each = are.each;
     first = λ place ending at. first_on node ending (are.first place ending at);
@@ -408,121 +392,18 @@ module _ (t : Telling) where
     nodes = are.nodes
         ∙ (sym (append-nil (listed_below node (ends_at t)))
         ∙ ((λ i. listed_below node (ends_at t) ++ (if sym not_here i then node ∷ [] else [])) ∙ sym (listed_on node (ends_at t))));
-    counts = λ place text at. are.counts place text at ∙ same_count text;
+    counts = λ place shown at. are.counts place shown at ∙ same_count shown;
     beyond = are.beyond;
   }
     where
       not_here : ends_at t node ≡ false
       not_here = inner
 
-      same_count : (text : List ℕ) → nodes_like t node text ≡ nodes_like t (node + 1) text
-      same_count text =
-          let no : is_like text node ≡ false = ap (λ (b : Bool). b && bytes_eq (node_text t node) text) not_here in
-          sym (none_more (nodes_like t node text) (is_like text node) no) ∙ sym (nodes_on node text)
+      same_count : (shown : Shown) → nodes_like t view node shown ≡ nodes_like t view (node + 1) shown
+      same_count shown =
+          let no : is_like shown node ≡ false = ap (λ (b : Bool). b && same_shown (node_shown t view node) shown) not_here in
+          sym (none_more (nodes_like t view node shown) (is_like shown node) no) ∙ sym (nodes_on node shown)
 
-      by_place : (other : ℕ) → ends_at t other ≡ true → (other < node) ⊎ (node ≡ other) → IsLook t endings other
+      by_place : (other : ℕ) → ends_at t other ≡ true → (other < node) ⊎ (node ≡ other) → IsLook t view endings other
       by_place other at (inl low) = are.all other low at
       by_place other at (inr same) = absurd (false≢true (sym inner ∙ (ap (ends_at t) same ∙ at)))
-
-  -- ---- what is told of orders
-
-  -- the text of a node is what is seen where its order leads
-  pub text_there : (node : ℕ) (p : Point) → leads_by t.asked t.start (labels_to t.edges node) ≡ Some p → node_text t node ≡ seen_text false (seen_of p)
-  unfolding node_text
-  text_there node p leads = ap (λ (o : Option Point). option_map_or (λ (q : Point). seen_text false (seen_of q)) o []) leads
-
-  -- .. as it is put into an empty text
-  pub shown_there : (node : ℕ) (told : IsToldOrder t node) (text empty : List ℕ) → empty ≡ [] → text ≡ empty ++ seen_text false (seen_of told.last)
-      → text ≡ node_text t node
-  shown_there node told text empty none put =
-      put ∙ (ap (λ (xs : List ℕ). xs ++ seen_text false (seen_of told.last)) none ∙ sym (text_there node told.last told.leads))
-
-  -- .. and at each point of it
-  text_alike : Matched t.start.state → (number : ℕ) (p : Point)
-      → IsFound (after t.asked) (node_of t.asked t.start) t.edges number (node_of t.asked p) → node_text t number ≡ seen_text false (seen_of p)
-  text_alike matched number p found =
-      let to = paths_are_orders t.asked (labels_to t.edges number) t.start (node_of t.asked p) matched found.by_path in
-      text_there number to.last to.leads
-      ∙ ap (seen_text false)
-      (sym (nodes_are_seen_alike t.asked to.last).seen ∙ (ap seen_of to.is ∙ (nodes_are_seen_alike t.asked p).seen))
-
-  pub each_told : (endings : Endings) → AreEndings t (length t.notes) endings → IsSound t → TellsOrders t → TellsEndings t endings
-  each_told endings are sound tells = record {
-    orders = λ k d low.
-        (let ending : Ending = get_or endings.list.items k d in
-        let is : IsEndingOf t ending = are.each k d low in
-        let has = ended (slice_get t.notes ending.first) is.ends in
-        let noted : ending.first < length t.notes = slice_get_within t.notes ending.first has.note has.is in
-        let few = sound.few in
-        let told = tells ending.first (omega (arith, noted, few)) in
-        record {
-          last = told.last;
-          leads = ap (leads_by t.asked t.start) is.order ∙ told.leads;
-          ends = sym (ap (λ (note : Note). note.ends) (told.noted has.note has.is)) ∙ has.ends;
-          seen = is.seen ∙ text_there ending.first told.last told.leads;
-        });
-    different = are.different;
-    nodes = are.nodes;
-    counts = are.counts;
-  }
-
-  module _ (matched : Matched t.start.state) (endings : Endings) (are : AreEndings t (length t.notes) endings) (all : TellsAllOrders t) where
-    -- where an order ends its node is told, and its note says so
-    record IsToldEnd (order : List Move) (last : Point) : Type 0 where
-      told : IsPointTold t last (length order)
-      ends : ends_at t told.number ≡ true
-      low : told.number < length t.notes
-
-    told_end : (order : List Move) (last : Point) → leads_by t.asked t.start order ≡ Some last → is_ending t.asked last.state ≡ true
-        → IsToldEnd order last
-    told_end order last leads ends =
-        let told = all order last leads in
-        record {
-          told = told;
-          ends = ap (λ (o : Option Note). option_map_or (λ (note : Note). note.ends) o false) told.noted ∙ ends;
-          low = slice_get_within t.notes told.number (note_of t.asked last.state) told.noted;
-        }
-
-    pub all_told : TellsAllEndings t endings
-    all_told order last leads ends =
-        let end = told_end order last leads ends in
-        let look = are.all end.told.number end.low end.ends in
-        record {
-          node = end.told.number;
-          found = end.told.found;
-          look = look;
-          alike = subst (IsAt endings.list.items look.look.ending) (text_alike matched end.told.number last end.told.found) look.alike;
-        }
-
-    pub all_shortest : IsSound t → AreShortest t endings
-    all_shortest sound place ending order last there leads ends alike =
-        let end = told_end order last leads ends in
-        let text : node_text t end.told.number ≡ ending.seen.items = text_alike matched end.told.number last end.told.found ∙ alike in
-        let first : ending.first ≤ end.told.number = (are.first place ending there).least end.told.number end.low end.ends text in
-        let shorter : length (labels_to t.edges ending.first) ≤ length (labels_to t.edges end.told.number) =
-        later_no_shorter t.edges sound.tree sound.in_order ending.first end.told.number first end.told.found.told in
-        let here : get_or endings.list.items place ending ≡ ending = get_or_from_slice_get endings.list.items place ending ending there in
-        let is : IsEndingOf t ending =
-        subst (IsEndingOf t) here (are.each place ending (slice_get_within endings.list.items place ending there)) in
-        let size : length ending.order.items ≡ length (labels_to t.edges ending.first) = ap length is.order in
-        let most = end.told.no_longer in
-        omega (arith, shorter, size, most)
-
--- what a search says, also where the search has the same subject then
-pub says_so : {cmp : List ℕ → List ℕ → Ordering} (states : ℕ) (s later : Subject) (told : Told) → later ≡ s → Matched (start_of s).state
-    → FindsNodes states (finding_of s told.found) → FindsAllOrders cmp (finding_of s told.found)
-    → AreEndings (telling_in (finding_of s told.found)) (length told.found.notes.items) told.endings → SaysSo cmp states (report_of later told)
-says_so {cmp = cmp} states s later told same matched nodes whole are =
-    let t : Telling = telling_in (finding_of s told.found) in
-    let here : SaysSo cmp states (report_of s told) = record {
-      nodes = nodes;
-      endings = each_told t told.endings are nodes.found nodes.orders;
-      whole = λ is tell.
-          (let all = whole is tell in
-          record {
-            orders = all;
-            endings = all_told t matched told.endings are all;
-            shortest = all_shortest t matched told.endings are all nodes.found;
-          });
-    } in
-    subst (λ (x : Subject). SaysSo cmp states (report_of x told)) (sym same) here

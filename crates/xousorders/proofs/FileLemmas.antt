@@ -1,7 +1,7 @@
 -- The events of an order, move by move, and the files of endings.
-use Rattle.std.proofs.Common.{◌≡◌, ◌<◌, ◌+◌, ◌∙◌, ℕ, suc, Bool, true, false, List, [], ◌∷◌, ◌++◌, get_or, length, take, take-suc, Option, None, Some, sym, ap, subst, arith}
-use Rattle.std.specs.Prelude.{slice_get}
-use Rattle.std.proofs.lemmas.Bool.{false≢true}
+use Rattle.std.proofs.Common.{◌≡◌, ◌<◌, ◌+◌, ◌∙◌, ℕ, zero, suc, List, [], ◌∷◌, ◌++◌, get_or, length, take, take-suc, Option, None, Some, sym, ap, subst, arith}
+use Rattle.std.specs.Prelude.{slice_get, IfSome}
+use Rattle.event_text.specs.Spelling.{AreAskable, IsAskable}
 use Rattle.xousorders.specs.Calls.{Report, files_in}
 use Rattle.std.specs.Option.{option_map_or}
 use Rattle.std.proofs.lemmas.List.{append-nil}
@@ -13,7 +13,7 @@ use Rattle.xk_base.specs.declared.events.Event.{Event}
 use Rattle.xk_ports.proofs.ToldLemmas.{Grows-append, Grows-none}
 use Rattle.xk_ports.specs.Told.{Grows}
 use Rattle.xousorders.specs.declared.endings.Ending.{Ending}
-use Rattle.xousorders.specs.Files.{EventFile, files_below, order_file}
+use Rattle.xousorders.specs.Files.{EventFile, event_file_of, files_below}
 
 -- an event of no number plays nothing
 pub none_moved : (asked : Asked) (once : List Event) (k : ℕ) (next : Move) (events : List Event) → asked.once ≡ once → next ≡ Once k
@@ -36,30 +36,66 @@ moved asked order k d events more low so_far added =
     ∙ ((λ i. so_far i ++ sym one i)
     ∙ (sym (flat_map-append (events_of_move asked) (take k order) (get_or order k d ∷ [])) ∙ ap (events_of asked) (sym further)))
 
+-- ---- events that lines can ask for
+
+pub askable_append : (a b : List Event) → AreAskable a → AreAskable b → AreAskable (a ++ b)
+unfolding AreAskable
+askable_append [] b one other = other
+askable_append (event ∷ a) b one other = (one.0, askable_append a b one.1 other)
+
+pub askable_one : (event : Event) → IsAskable event → AreAskable (event ∷ [])
+unfolding AreAskable
+askable_one event one = (one, tt)
+
+pub askable_none : AreAskable []
+unfolding AreAskable
+askable_none = tt
+
+askable_at : (once : List Event) (k : ℕ) → AreAskable once → IfSome (slice_get once k) IsAskable
+unfolding AreAskable
+askable_at [] k all = tt
+askable_at (event ∷ once) zero all = all.0
+askable_at (event ∷ once) (suc k) all = askable_at once k all.1
+
+one_asked : (old new : List Event) (event : Event) → new ≡ old ++ event ∷ [] → AreAskable old → IsAskable event → AreAskable new
+one_asked old new event is all one = subst AreAskable (sym is) (askable_append old (event ∷ []) all (askable_one event one))
+
+-- two events more
+pub two_asked : (old mid new : List Event) (first second : Event) → mid ≡ old ++ first ∷ [] → new ≡ mid ++ second ∷ [] → AreAskable old
+    → IsAskable first → IsAskable second → AreAskable new
+two_asked old mid new first second is then all one other = one_asked mid new second then (one_asked old mid first is all one) other
+
+-- one of these events more
+pub asked_further : (once : List Event) (k : ℕ) (event : Event) (old new : List Event) → AreAskable once → slice_get once k ≡ Some event
+    → new ≡ old ++ event ∷ [] → AreAskable old → AreAskable new
+asked_further once k event old new all there is before =
+    one_asked old new event is before (subst (λ (o : Option Event). IfSome o IsAskable) there (askable_at once k all))
+
 -- ---- files
 
-pub no_files : (asked : Asked) (before : List ℕ) (endings : List Ending) (written : Option (List EventFile))
-    → Grows written written (files_below asked before endings 0)
+pub no_files : (folder : List ℕ) (asked : Asked) (before : List ℕ) (endings : List Ending) (written : Option (List EventFile))
+    → Grows written written (files_below folder asked before endings 0)
 unfolding files_below
-no_files asked before endings written = Grows-none written
+no_files folder asked before endings written = Grows-none written
 
 -- the file of an ending more
-pub file_more : (asked : Asked) (before : List ℕ) (endings : List Ending) (n : ℕ) (ending : Ending) (number : ℕ) (old mid new : Option (List EventFile))
-    → slice_get endings n ≡ Some ending → number ≡ n + 1 → Grows old mid (files_below asked before endings n)
-    → Grows mid new ((record { number = number; bytes = order_file asked before ending.order.items }) ∷ [])
-    → Grows old new (files_below asked before endings (n + 1))
+pub file_more : (folder : List ℕ) (asked : Asked) (before : List ℕ) (endings : List Ending) (n : ℕ) (ending : Ending) (number : ℕ)
+    (old mid new : Option (List EventFile)) → slice_get endings n ≡ Some ending → number ≡ n + 1
+    → Grows old mid (files_below folder asked before endings n)
+    → Grows mid new (event_file_of folder asked before number ending.order.items ∷ [])
+    → Grows old new (files_below folder asked before endings (n + 1))
 unfolding files_below
-file_more asked before endings n ending number old mid new there is first next =
+file_more folder asked before endings n ending number old mid new there is first next =
     let on : suc n ≡ n + 1 = omega arith in
-    let file : EventFile = record { number = number; bytes = order_file asked before ending.order.items } in
-    let one : file ∷ [] ≡ option_map_or (λ (e : Ending). (record { number = n + 1; bytes = order_file asked before e.order.items }) ∷ []) (slice_get endings n) [] =
-    (λ i. (record { number = is i; bytes = order_file asked before ending.order.items }) ∷ [])
-    ∙ ap (λ (o : Option Ending). option_map_or (λ (e : Ending). (record { number = n + 1; bytes = order_file asked before e.order.items }) ∷ []) o [])
-    (sym there) in
-    subst (λ (k : ℕ). Grows old new (files_below asked before endings k)) on
-    (Grows-append old mid new (files_below asked before endings n) _ first (subst (Grows mid new) one next))
+    let file : EventFile = event_file_of folder asked before number ending.order.items in
+    let one : file ∷ [] ≡ option_map_or (λ (e : Ending). event_file_of folder asked before (n + 1) e.order.items ∷ []) (slice_get endings n) [] =
+    (λ i. event_file_of folder asked before (is i) ending.order.items ∷ [])
+    ∙ ap (λ (o : Option Ending). option_map_or (λ (e : Ending). event_file_of folder asked before (n + 1) e.order.items ∷ []) o []) (sym there) in
+    subst (λ (k : ℕ). Grows old new (files_below folder asked before endings k)) on
+    (Grows-append old mid new (files_below folder asked before endings n) _ first (subst (Grows mid new) one next))
 
--- .. or none, where none are to be written
-pub no_files_in : (filed : Bool) (report : Report) (written : Option (List EventFile)) → filed ≡ false → Grows written written (files_in filed report)
-no_files_in true report written e = absurd (false≢true (sym e))
-no_files_in false report written e = Grows-none written
+-- .. or none, where there is no folder for them
+pub no_files_in : (folder : Option (List ℕ)) (report : Report) (written : Option (List EventFile)) → folder ≡ None
+    → Grows written written (files_in folder report)
+no_files_in None report written e = Grows-none written
+no_files_in (Some name) report written e = absurd (let no : Some name ≡ None = e in cc)

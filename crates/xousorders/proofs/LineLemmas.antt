@@ -7,7 +7,8 @@ use Rattle.std.proofs.lemmas.List.{append-nil, append_assoc}
 use Rattle.xousorders.specs.Endings.{looks_at}
 use Rattle.order_model.specs.declared.moves.Note.{Note}
 use Rattle.xousorders.specs.Searched.{slices_tried}
-use Rattle.xousorders.specs.Lines.{ending_line, line_at, lines_below}
+use Rattle.order_model.specs.declared.failing.Failing.{Failing}
+use Rattle.xousorders.specs.Lines.{ending_line, failure_at, failure_of, failures_below, line_at, lines_below}
 use Rattle.xousorders.specs.declared.endings.Ending.{Ending}
 use Rattle.xousorders.specs.declared.endings.Endings.{Endings}
 
@@ -34,6 +35,37 @@ lines_on endings place old so_far more line before put is =
     ∙ ((λ i. before i ++ is i)
     ∙ (append_assoc old (lines_below place endings) (line_at endings place)
     ∙ ap (λ (n : ℕ). old ++ lines_below n endings) (sym on)))
+
+-- pieces of text, one behind the other
+pub four_pieces : (a b c d one two three four : List ℕ) → one ≡ a → two ≡ one ++ b → three ≡ two ++ c → four ≡ three ++ d
+    → four ≡ a ++ (b ++ (c ++ d))
+four_pieces a b c d one two three four first second third fourth =
+    fourth
+    ∙ (ap (λ (xs : List ℕ). xs ++ d) (third ∙ ap (λ (xs : List ℕ). xs ++ c) second)
+    ∙ (append_assoc (one ++ b) c d
+    ∙ (append_assoc one b (c ++ d) ∙ ap (λ (xs : List ℕ). xs ++ (b ++ (c ++ d))) first)))
+
+-- ---- endings that fail
+
+module _ (fails : List Failing) (list : List Ending) where
+  pub no_failures : (text : List ℕ) → text ≡ text ++ failures_below 0 fails list
+  unfolding failures_below
+  no_failures text = sym (append-nil text)
+
+  -- the ending at a place is looked at
+  pub failures_on : (place : ℕ) (old so_far more : List ℕ) → so_far ≡ old ++ failures_below place fails list
+      → more ≡ so_far ++ failure_at fails list place → more ≡ old ++ failures_below (place + 1) fails list
+  unfolding failures_below
+  failures_on place old so_far more before put =
+      let on : place + 1 ≡ suc place = omega arith in
+      put
+      ∙ (ap (λ (xs : List ℕ). xs ++ failure_at fails list place) before
+      ∙ (append_assoc old (failures_below place fails list) (failure_at fails list place)
+      ∙ ap (λ (n : ℕ). old ++ failures_below n fails list) (sym on)))
+
+  pub failure_there : (place : ℕ) (ending : Ending) → slice_get list place ≡ Some ending
+      → failure_at fails list place ≡ failure_of fails (place + 1) ending
+  failure_there place ending there = ap (λ (o : Option Ending). option_map_or (failure_of fails (place + 1)) o []) there
 
 -- ---- slices
 

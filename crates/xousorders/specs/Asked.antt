@@ -1,5 +1,5 @@
 -- What is asked for, of the files that the words name.
-use Rattle.std.specs.Prelude.{◌≡◌, ◌<◌, ◌⊎◌, ℕ, List, [], length, Option, Some, None, true}
+use Rattle.std.specs.Prelude.{◌≡◌, ◌<◌, ◌⊎◌, ℕ, Bool, List, [], length, Option, Some, None}
 use Rattle.boot_plan.specs.FirstPages.{plan_of}
 use Rattle.boot_plan.specs.ImageFault.{IsImageFault}
 use Rattle.boot_plan.specs.declared.plans.BootPlan.{BootPlan}
@@ -18,16 +18,17 @@ use Rattle.program_status.specs.declared.status.Status.TheVariants.{EventFault, 
 abbrev pub HostFiles : Type 0
 HostFiles = Option (List ℕ → Option (List ℕ))
 
--- The names of the image and of the event file that is played before, how many steps a slice has at most, and the events that may come,
--- each once. Names are bytes of UTF-8.
+-- The names of the image and of the event file that is played before, how many steps a slice has at most, the events that may come, each
+-- once, and whether orders differ by what processes end with. Names are bytes of UTF-8.
 pub record Asking : Type 0 where
   pub image : List ℕ
   pub before : Option (List ℕ)
   pub quantum : ℕ
   pub once : List Event
+  pub exits : Bool
 
-abbrev pub asking_of : List ℕ → Option (List ℕ) → ℕ → List Event → Asking
-asking_of image before quantum once = record { image = image; before = before; quantum = quantum; once = once }
+abbrev pub asking_of : List ℕ → Option (List ℕ) → ℕ → List Event → Bool → Asking
+asking_of image before quantum once exits = record { image = image; before = before; quantum = quantum; once = once; exits = exits }
 
 -- ---- files that are read
 
@@ -50,7 +51,7 @@ pub record IsAsked (files : HostFiles) (asking : Asking) (s : Subject) : Type 0 
   pub quantum : s.orders.quantum ≡ asking.quantum
   pub bound : s.orders.bound ≡ None
   pub once : s.orders.once.items ≡ asking.once
-  pub exits : s.orders.exits ≡ true
+  pub exits : s.orders.exits ≡ asking.exits
 
 -- ---- files that aren't
 

@@ -16,18 +16,23 @@ with_feed (byte ∷ bytes) = if is_last 10 (byte ∷ bytes) then byte ∷ bytes 
 abbrev pub order_file : Asked → List ℕ → List Move → List ℕ
 order_file asked before order = with_feed before ++ event_lines (events_of asked order)
 
--- the event file of an ending, by its number, which is one more than its place
+-- the event file of an ending, by its folder and its number, which is one more than its place
 pub record EventFile : Type 0 where
+  pub folder : List ℕ
   pub number : ℕ
   pub bytes : List ℕ
 
+-- that of this order
+abbrev pub event_file_of : List ℕ → Asked → List ℕ → ℕ → List Move → EventFile
+event_file_of folder asked before number order = record { folder = folder; number = number; bytes = order_file asked before order }
+
 -- the files of the first n endings
-unfoldable pub files_below : Asked → List ℕ → List Ending → ℕ → List EventFile
-files_below asked before endings zero = []
-files_below asked before endings (suc n) =
-    files_below asked before endings n
-    ++ option_map_or (λ ending. record { number = n + 1; bytes = order_file asked before ending.order.items } ∷ []) (slice_get endings n) []
+unfoldable pub files_below : List ℕ → Asked → List ℕ → List Ending → ℕ → List EventFile
+files_below folder asked before endings zero = []
+files_below folder asked before endings (suc n) =
+    files_below folder asked before endings n
+    ++ option_map_or (λ ending. event_file_of folder asked before (n + 1) ending.order.items ∷ []) (slice_get endings n) []
 
 -- .. and of all
-abbrev pub order_files : Asked → List ℕ → List Ending → List EventFile
-order_files asked before endings = files_below asked before endings (length endings)
+abbrev pub order_files : List ℕ → Asked → List ℕ → List Ending → List EventFile
+order_files folder asked before endings = files_below folder asked before endings (length endings)

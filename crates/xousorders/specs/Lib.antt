@@ -1,8 +1,14 @@
+pub mod Answers
+pub mod Arguments
 pub mod Asked
 pub mod Calls
+pub mod CommandLine
 pub mod Endings
+pub mod Failures
 pub mod Files
 pub mod Lines
 pub mod Outcomes
+pub mod Replayed
 pub mod Searched
+pub mod Values
 pub mod Words

@@ -1,11 +1,15 @@
 -- The lines of what a search found.
 use Rattle.std.specs.Prelude.{ℕ, zero, suc, ◌+◌, ◌==◌, Bool, true, false, List, [], ◌++◌, codes, decimal, filter, if◌then◌else◌, length, slice_get, Option, Some, None}
 use Rattle.std.specs.Option.{option_map_or}
+use Rattle.order_model.specs.declared.failing.Failing.{Failing}
 use Rattle.order_model.specs.declared.moves.Move.{Move}
 use Rattle.order_model.specs.declared.moves.Move.TheVariants.{Once, Slice}
 use Rattle.graph_search.specs.declared.found.Extent.{Extent}
 use Rattle.graph_search.specs.declared.found.Extent.TheVariants.{Cut, Whole}
-use Rattle.xousorders.specs.Endings.{looks_at}
+use Rattle.order_text.specs.Failings.{failing_text}
+use Rattle.xousorders.specs.Endings.{failing_of, looks_at}
+use Rattle.xousorders.specs.Failures.{is_several}
+use Rattle.xousorders.specs.declared.endings.Ending.{Ending}
 use Rattle.xousorders.specs.declared.endings.Endings.{Endings}
 
 -- a number with its noun
@@ -38,15 +42,15 @@ abbrev pub ending_head : ℕ → List ℕ → List ℕ
 ending_head number seen = codes "ending " ++ (decimal number ++ (codes ": " ++ seen))
 
 abbrev pub ending_counts : ℕ → List Move → List ℕ
-ending_counts nodes order = codes "; " ++ (counted nodes (codes "node") ++ (codes "; " ++ (counted (slices_in order) (codes "slice") ++ codes "\n")))
+ending_counts nodes order = counted nodes (codes "node") ++ (codes "; " ++ (counted (slices_in order) (codes "slice") ++ codes "\n"))
 
--- an ending that looks so, of so many nodes, with the order to the first of them
+-- an ending that is told so, of so many nodes, with the order to the first of them
 abbrev pub ending_line : ℕ → List ℕ → ℕ → List Move → List ℕ
 ending_line number seen nodes order = ending_head number seen ++ ending_counts nodes order
 
 -- ---- all endings
 
--- the line of the ending at a place: numbers begin with 1, and its nodes are those that are told to look like it
+-- the line of the ending at a place: numbers begin with 1, and its nodes are those that are told to be like it
 abbrev pub line_at : Endings → ℕ → List ℕ
 line_at endings place =
     option_map_or (λ ending. ending_line (place + 1) ending.seen.items (looks_at endings.looks.items place) ending.order.items)
@@ -61,3 +65,34 @@ lines_below (suc n) endings = lines_below n endings ++ line_at endings n
 abbrev pub endings_text : Endings → List ℕ
 endings_text endings =
     lines_below (length endings.list.items) endings ++ (counted (length endings.list.items) (codes "ending") ++ codes "\n")
+
+-- ---- endings that fail
+
+-- of what the ending of this number fails, and how many slices its order has
+abbrev pub failure_line : Failing → ℕ → List Move → List ℕ
+failure_line failing number order =
+    codes "fails: "
+    ++ (failing_text failing
+    ++ (codes " in ending " ++ (decimal number ++ (codes ", " ++ (counted (slices_in order) (codes "slice") ++ codes "\n")))))
+
+-- the line of the ending of this number, if it fails of one of these
+abbrev pub failure_of : List Failing → ℕ → Ending → List ℕ
+failure_of fails number ending = option_map_or (λ failing. failure_line failing number ending.order.items) (failing_of fails ending.fails) []
+
+-- .. and of the one at a place
+abbrev pub failure_at : List Failing → List Ending → ℕ → List ℕ
+failure_at fails list place = option_map_or (failure_of fails (place + 1)) (slice_get list place) []
+
+-- the lines of the first n endings that fail
+unfoldable pub failures_below : ℕ → List Failing → List Ending → List ℕ
+failures_below zero fails list = []
+failures_below (suc n) fails list = failures_below n fails list ++ failure_at fails list n
+
+-- .. and of all
+abbrev pub failures_text : List Failing → List Ending → List ℕ
+failures_text fails list = failures_below (length list) fails list
+
+-- the line of endings that differ, where there was to be one at most
+abbrev pub differ_text : Bool → ℕ → List ℕ
+differ_text differ count =
+    if is_several differ count then codes "fails: differ, " ++ (counted count (codes "ending") ++ codes "\n") else []

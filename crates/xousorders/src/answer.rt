@@ -1,13 +1,15 @@
 //! What is told of a search.
 
 ghost use Rattle.std.specs.Prelude.{◌≡◌, ◌++◌, OnOk};
-ghost use Rattle.xousorders.specs.Lines.{bound_text, counted, ending_counts, ending_head, ending_line, endings_text, extent_line, extent_text, slices_in};
+ghost use Rattle.xousorders.specs.Lines.{bound_text, counted, differ_text, ending_counts, ending_head, ending_line, endings_text, extent_line, extent_text};
+ghost use Rattle.xousorders.specs.Lines.{failure_line, failure_of, failures_text, slices_in};
 ghost use Rattle.xousorders.specs.Searched.{slices_tried as slices_tried_by};
 
 use crate::endings::{Ending, Endings, count_looks};
+use crate::failures::{failing_of, is_several};
 use graph_search::{Cut, Extent};
-use order_model::{Move, Note};
-use order_text::{put, put_number};
+use order_model::{Failing, Move, Note};
+use order_text::{put, put_failing, put_number};
 use std::alloc::AllocError;
 
 /// A number with its noun.
@@ -100,14 +102,13 @@ fn put_head(text: &mut Vec<u8>, number: u64, seen: &[u8]) -> Result<(), AllocErr
 fn put_counts(text: &mut Vec<u8>, nodes: u64, order: &[Move]) -> Result<(), AllocError>
     ensures { OnOk result (text.new.items ≡ text.old.items ++ ending_counts nodes order.now) }
 {
-    put(text, b"; ")?;
     put_counted(text, nodes, b"node")?;
     put(text, b"; ")?;
     put_counted(text, slices_of(order), b"slice")?;
     put(text, b"\n")
 }
 
-/// The line of an ending, of which so many nodes look alike.
+/// The line of an ending, which so many nodes are like.
 fn put_ending(
     text: &mut Vec<u8>,
     number: u64,
@@ -131,6 +132,68 @@ pub fn put_endings(text: &mut Vec<u8>, endings: &Endings) -> Result<(), AllocErr
         put_ending(text, number, &endings.list[place], nodes)?;
     }
     put_counted(text, endings.list.len() as u64, b"ending")?;
+    text.push(b'\n')?;
+    Ok(())
+}
+
+/// The line of an ending that fails of this.
+fn put_failure(
+    text: &mut Vec<u8>,
+    failing: &Failing<'_>,
+    number: u64,
+    order: &[Move],
+) -> Result<(), AllocError>
+    ensures { OnOk result (text.new.items ≡ text.old.items ++ failure_line failing.now number order.now) }
+{
+    put(text, b"fails: ")?;
+    put_failing(text, failing)?;
+    put(text, b" in ending ")?;
+    put_number(text, number)?;
+    put(text, b", ")?;
+    put_counted(text, slices_of(order), b"slice")?;
+    text.push(b'\n')?;
+    Ok(())
+}
+
+/// The line of the ending of this number, if it fails.
+fn put_failure_of(
+    text: &mut Vec<u8>,
+    fails: &[Failing<'_>],
+    number: u64,
+    ending: &Ending,
+) -> Result<(), AllocError>
+    ensures { OnOk result (text.new.items ≡ text.old.items ++ failure_of fails.now number ending.now) }
+{
+    match failing_of(fails, ending) {
+        Some(failing) => put_failure(text, &failing, number, &ending.order),
+        None => Ok(()),
+    }
+}
+
+/// The lines of the endings that fail.
+pub fn put_failures(
+    text: &mut Vec<u8>,
+    fails: &[Failing<'_>],
+    list: &[Ending],
+) -> Result<(), AllocError>
+    ensures { OnOk result (text.new.items ≡ text.old.items ++ failures_text fails.now list.now) }
+{
+    for place in 0..list.len() {
+        let number = place as u64 + 1;
+        put_failure_of(text, fails, number, &list[place])?;
+    }
+    Ok(())
+}
+
+/// The line of endings that differ, where there was to be one at most.
+pub fn put_differ(text: &mut Vec<u8>, differ: bool, count: usize) -> Result<(), AllocError>
+    ensures { OnOk result (text.new.items ≡ text.old.items ++ differ_text differ count) }
+{
+    if !is_several(differ, count) {
+        return Ok(());
+    }
+    put(text, b"fails: differ, ")?;
+    put_counted(text, count as u64, b"ending")?;
     text.push(b'\n')?;
     Ok(())
 }

@@ -1,93 +1,123 @@
-//! The endings of a search: those that look alike are one.
+//! The endings of a search: those that are told alike are one.
 
 ghost use Rattle.std.specs.Prelude.{◌≡◌, ◌<◌, ◌+◌, IfErr, IfSome, IfOk, OnOk, None, length, true};
 ghost use Rattle.order_model.specs.Searches.{IsSound};
 ghost use Rattle.order_search.specs.Found.{TellsOrders, telling_of};
 ghost use Rattle.order_search.specs.Quests.{searching_of};
 ghost use Rattle.xousorders.specs.Endings.{Adds, AreEndings, IsAt, Lists, NoneIs, ends_at, looks_at};
+ghost use Rattle.xousorders.specs.Endings.{same_place as same_place_of, same_shown, shown_in};
 ghost use Rattle.xousorders.specs.Searched.{IsStopped};
 
 use crate::outcome::unplayed;
+use crate::view::View;
 use graph_search::{Found, path_to};
-use order_model::{Move, Note};
+use order_model::{Move, Note, first_failing};
 use order_search::{Quest, Stand};
 use order_text::put_seen;
 use program_status::Status;
 use std::alloc::{AllocError, Global};
 
-/// An ending that looks different from those before it: the number of the first node that looks so, and the order to it.
+/// An ending that is told otherwise than those before it: what is seen of it, the place of the first of those things of which it fails,
+/// the number of the first node that is told so, and the order to it.
 #[derive(Drop)]
 pub struct Ending {
     pub seen: Vec<u8>,
+    pub fails: Option<usize>,
     pub first: usize,
     pub order: Vec<Move>,
 }
 
-/// A node where orders end, and the place of the ending that it looks like.
+/// A node where orders end, and the place of the ending that it is like.
 #[derive(Clone, Copy, Debug)]
 pub struct Look {
     pub node: usize,
     pub ending: usize,
 }
 
-/// All endings, and the nodes that look like them.
+/// All endings, and the nodes that are like them.
 #[derive(Drop)]
 pub struct Endings {
     pub list: Vec<Ending>,
     pub looks: Vec<Look>,
 }
 
-/// The place of the ending that looks so.
-fn place_of(list: &[Ending], seen: &[u8]) -> Option<usize>
-    ensures place { IfSome result (λ place. IsAt list.now place seen.now) }
-    ensures none { result ≡ None → NoneIs list.now seen.now }
+/// Whether two endings fail of the same.
+fn same_place(one: Option<usize>, other: Option<usize>) -> bool
+    ensures { result ≡ same_place_of one other }
+{
+    match (one, other) {
+        (None, None) => true,
+        (Some(one), Some(other)) => one == other,
+        (None, Some(_)) | (Some(_), None) => false,
+    }
+}
+
+/// Whether the ending is told so.
+fn is_told_so(ending: &Ending, seen: &[u8], fails: Option<usize>) -> bool
+    ensures { result ≡ same_shown (shown_in ending.now) (record { text = seen.now; fails = fails }) }
+{
+    ending.seen.as_slice() == seen && same_place(ending.fails, fails)
+}
+
+/// The place of the ending that is told so.
+fn place_of(list: &[Ending], seen: &[u8], fails: Option<usize>) -> Option<usize>
+    ensures place { IfSome result (λ place. IsAt list.now place (record { text = seen.now; fails = fails })) }
+    ensures none { result ≡ None → NoneIs list.now (record { text = seen.now; fails = fails }) }
 {
     for place in 0..list.len() {
-        if list[place].seen.as_slice() == seen {
+        if is_told_so(&list[place], seen, fails) {
             return Some(place);
         }
     }
     None
 }
 
-/// The place of the ending of the node of this number, which is a new one where none looks so.
+/// The place of the ending of the node of this number, which is a new one where none is told so.
 fn place_for(
     list: &mut Vec<Ending>,
     first: usize,
     seen: Vec<u8>,
+    fails: Option<usize>,
     order: Vec<Move>,
 ) -> Result<usize, AllocError>
-    ensures alike { IfOk result (λ place. IsAt list.new.items place seen.items) }
-    ensures lists { OnOk result (Lists first order.items seen.items list.old.items list.new.items) }
+    ensures alike { IfOk result (λ place. IsAt list.new.items place (record { text = seen.items; fails = fails })) }
+    ensures lists { OnOk result (Lists first order.items (record { text = seen.items; fails = fails }) list.old.items list.new.items) }
 {
-    match place_of(list, &seen) {
+    match place_of(list, &seen, fails) {
         Some(place) => Ok(place),
         None => {
             let place = list.len();
-            list.push(Ending { seen, first, order })?;
+            list.push(Ending {
+                seen,
+                fails,
+                first,
+                order,
+            })?;
             Ok(place)
         }
     }
 }
 
-/// The node of this number is told with those that it looks like.
+/// The node of this number is told with those that it is like.
 fn add(
     endings: &mut Endings,
     node: usize,
     seen: Vec<u8>,
+    fails: Option<usize>,
     order: Vec<Move>,
 ) -> Result<(), AllocError>
-    ensures { OnOk result (Adds node order.items seen.items endings.old endings.new) }
+    ensures { OnOk result (Adds node order.items (record { text = seen.items; fails = fails }) endings.old endings.new) }
 {
-    let ending = place_for(&mut endings.list, node, seen, order)?;
+    let ending = place_for(&mut endings.list, node, seen, fails, order)?;
     endings.looks.push(Look { node, ending })?;
     Ok(())
 }
 
-/// What is seen of the node of this number is told.
+/// What is seen of the node of this number is told, and of what it fails.
 fn see(
     alloc: Global,
     quest: &mut Quest,
+    view: &View<'_>,
     found: &Found<Move, Note>,
     node: usize,
     endings: &mut Endings,
@@ -100,7 +130,7 @@ fn see(
         ends_at (telling_of q found.now.edges.items found.now.notes.items) node ≡ true }
     ensures adds { let q = searching_of quest.old.subject in
         let t = telling_of q found.now.edges.items found.now.notes.items in
-        OnOk result (AreEndings t node endings.old → AreEndings t (node + 1) endings.new) }
+        OnOk result (AreEndings t view.now node endings.old → AreEndings t view.now (node + 1) endings.new) }
     ensures subject { quest.new.subject ≡ quest.old.subject }
     ensures stopped { IfErr result (IsStopped quest.old.subject) }
 {
@@ -110,8 +140,9 @@ fn see(
         Err(answer) => return Err(unplayed(answer)),
     };
     let mut seen = Vec::new(alloc);
-    put_seen(&mut seen, &state, &trail, false)?;
-    add(endings, node, seen, order)?;
+    put_seen(&mut seen, view.sights, view.hex, &state, &trail)?;
+    let fails = first_failing(&view.fails, &state, &trail);
+    add(endings, node, seen, fails, order)?;
     Ok(())
 }
 
@@ -119,6 +150,7 @@ fn see(
 fn pass(
     alloc: Global,
     quest: &mut Quest,
+    view: &View<'_>,
     found: &Found<Move, Note>,
     node: usize,
     endings: &mut Endings,
@@ -129,22 +161,23 @@ fn pass(
     requires node { node < length found.now.notes.items }
     ensures adds { let q = searching_of quest.old.subject in
         let t = telling_of q found.now.edges.items found.now.notes.items in
-        OnOk result (AreEndings t node endings.old → AreEndings t (node + 1) endings.new) }
+        OnOk result (AreEndings t view.now node endings.old → AreEndings t view.now (node + 1) endings.new) }
     ensures subject { quest.new.subject ≡ quest.old.subject }
     ensures stopped { IfErr result (IsStopped quest.old.subject) }
 {
     let note = found.notes[node];
     if note.ends {
-        see(alloc, quest, found, node, endings)
+        see(alloc, quest, view, found, node, endings)
     } else {
         Ok(())
     }
 }
 
-/// All nodes where orders end are told, each with those that it looks like.
+/// All nodes where orders end are told, each with those that it is like.
 pub fn endings_of(
     alloc: Global,
     quest: &mut Quest,
+    view: &View<'_>,
     found: &Found<Move, Note>,
 ) -> Result<Endings, Status>
     requires sound { let q = searching_of quest.old.subject in IsSound (telling_of q found.now.edges.items found.now.notes.items) }
@@ -152,7 +185,7 @@ pub fn endings_of(
         TellsOrders (telling_of q found.now.edges.items found.now.notes.items) }
     ensures all { let q = searching_of quest.old.subject in
         let t = telling_of q found.now.edges.items found.now.notes.items in
-        IfOk result (AreEndings t (length t.notes)) }
+        IfOk result (AreEndings t view.now (length t.notes)) }
     ensures subject { quest.new.subject ≡ quest.old.subject }
     ensures stopped { IfErr result (IsStopped quest.old.subject) }
 {
@@ -161,12 +194,12 @@ pub fn endings_of(
         looks: Vec::new(alloc),
     };
     for node in 0..found.notes.len() {
-        pass(alloc, quest, found, node, &mut endings)?;
+        pass(alloc, quest, view, found, node, &mut endings)?;
     }
     Ok(endings)
 }
 
-/// How many nodes look like the ending at this place.
+/// How many nodes are like the ending at this place.
 pub fn count_looks(looks: &[Look], place: usize) -> u64
     ensures { result ≡ looks_at looks.now place }
 {

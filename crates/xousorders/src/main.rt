@@ -2,26 +2,33 @@
 #![tactic(auto)]
 
 mod answer;
+mod arguments;
+mod asked;
+mod command_line;
 mod endings;
+mod event_files;
+mod failing_words;
+mod failures;
 mod files;
-mod folder;
 mod image;
 mod notes;
 mod outcome;
 mod run;
+mod said;
+mod sight_words;
+mod view;
 mod watching;
 mod words;
 
-use folder::DiskFolder;
+use command_line::run_words;
+use event_files::DiskFiles;
 use host_io::{ErrSink, FileHost, StdSink};
 use notes::write_note;
 use outcome::Outcome;
 use program_status::{Status, all_words, hold_descriptors};
-use run::run;
 use std::io::IsTerminal;
 use std::process::ExitCode;
 use watching::Teller;
-use words::{Unread, read_words};
 use xk_ports::Sink;
 
 /// Ends with the note of an outcome.
@@ -39,16 +46,12 @@ fn main(rt: HostRuntime) -> ExitCode {
     };
     let is_seen = rt.stderr().is_terminal();
     let mut host = FileHost::new(&rt);
+    let mut files = DiskFiles::new(&rt, alloc);
     let outcome = match all_words(&rt) {
-        Ok(all) => match read_words(alloc, &all) {
-            Ok(words) => {
-                let mut folder = DiskFolder::new(&rt, alloc, words.folder.unwrap_or(""));
-                let mut teller = Teller::new(&rt, &mut notes, is_seen);
-                run(alloc, words, &mut host, &mut folder, &mut out, &mut teller)
-            }
-            Err(Unread::Usage) => Outcome::Ended(Status::Usage),
-            Err(Unread::NoMemory) => Outcome::Ended(Status::NoMemory),
-        },
+        Ok(all) => {
+            let mut teller = Teller::new(&rt, &mut notes, is_seen);
+            run_words(alloc, &all, &mut host, &mut files, &mut out, &mut teller)
+        }
         Err(status) => Outcome::Ended(status),
     };
     end(outcome, &mut notes)

@@ -7,7 +7,7 @@ ghost use Rattle.xousorders.specs.Outcomes.{note_of, usage_line};
 
 use crate::outcome::Outcome;
 use host_io::text::{Line, put};
-use xk_ports::Sink;
+use xk_ports::{Sink, put_all};
 
 /// The usage line. It is cut in two, each of which is short enough to be read.
 fn usage() -> Line
@@ -17,11 +17,11 @@ fn usage() -> Line
     let mut line = Line::new();
     put(
         &mut line,
-        b"usage: xousorders IMAGE [--quantum N] [--steps N] [--states N] [--from EVENTS] ",
+        b"usage: xousorders IMAGE [--quantum N] [--steps N] [--states N] [--from EVENTS] [--irq K].. ",
     );
     put(
         &mut line,
-        b"[--irq K].. [--kill PID].. [--write DIR] [--one]\n",
+        b"[--kill PID].. [--write DIR] [--see WHAT,..] [--hex] [--fails WHAT].. [--first] [--one]\n",
     );
     line
 }
@@ -33,6 +33,9 @@ pub fn write_note<N: Sink>(outcome: Outcome, notes: &mut N)
 {
     match outcome {
         Outcome::Ended(status) => program_status::write_note(status, usage().as_slice(), notes),
-        Outcome::Several => {}
+        Outcome::Failed => {}
+        Outcome::Cut => {
+            let _ = put_all(notes, b"cut\n");
+        }
     }
 }

@@ -1,14 +1,17 @@
 //! How the program ends.
 
-ghost use Rattle.std.specs.Prelude.{◌≡◌, IsSome, length};
+ghost use Rattle.std.specs.Prelude.{◌≡◌, IsSome};
 ghost use Rattle.order_search.specs.Faults.{IsFault, IsRunFault};
 ghost use Rattle.graph_search.specs.Edges.{HasCause};
 ghost use Rattle.order_search.specs.declared.subject.Subject.{Subject};
-ghost use Rattle.xousorders.specs.Outcomes.{is_several, number_of, outcome_of};
+ghost use Rattle.xousorders.specs.Failures.{asks_failure, tells_failure};
+ghost use Rattle.xousorders.specs.Outcomes.{is_whole as is_whole_extent, number_of, outcome_of, passed as passed_of};
 ghost use Rattle.xousorders.specs.Searched.{IsStopped};
 
-use crate::endings::Endings;
-use graph_search::Unanswered;
+use crate::endings::Ending;
+use crate::failures::{has_failed, is_several};
+use graph_search::{Extent, Unanswered};
+use order_model::Failing;
 use order_search::OrderFault;
 use program_status::Status;
 use xk_base::limits::STEP_LIMIT;
@@ -16,10 +19,12 @@ use xk_base::limits::STEP_LIMIT;
 /// How a call ends.
 #[derive(Clone, Copy, Debug, PartialEq, Eq)]
 pub enum Outcome {
-    /// With this status, and `Done` where there aren't more endings than there were to be.
+    /// With this status, and `Done` where there is no failure.
     Ended(Status),
-    /// There is more than one ending, and there was to be one at most.
-    Several,
+    /// A failure was told.
+    Failed,
+    /// None was told, but the search isn't whole.
+    Cut,
 }
 
 impl Outcome {
@@ -29,7 +34,8 @@ impl Outcome {
     {
         match self {
             Outcome::Ended(status) => status.number(),
-            Outcome::Several => 1,
+            Outcome::Failed => 1,
+            Outcome::Cut => 10,
         }
     }
 }
@@ -56,12 +62,46 @@ pub fn unplayed(answer: Unanswered<OrderFault>) -> Status
     }
 }
 
-/// How the program ends where so much was told; `one` asks for one ending at most.
-pub fn ended(one: bool, endings: &Endings) -> Outcome
-    ensures { result ≡ outcome_of (is_several one (length endings.now.list.items)) }
+/// Whether the search is whole.
+fn is_whole(extent: Extent) -> bool
+    ensures { result ≡ is_whole_extent extent }
 {
-    if one && endings.list.len() > 1 {
-        return Outcome::Several;
+    match extent {
+        Extent::Whole => true,
+        Extent::Cut(_) => false,
+    }
+}
+
+/// Whether a failure is told; `differ` makes it one if there is more than one ending.
+pub fn tells(fails: &[Failing<'_>], differ: bool, list: &[Ending]) -> bool
+    ensures { result ≡ tells_failure fails.now differ list.now }
+{
+    has_failed(fails, list) || is_several(differ, list.len())
+}
+
+/// Whether something makes an ending a failure.
+fn asks(fails: &[Failing<'_>], differ: bool) -> bool
+    ensures { result ≡ asks_failure fails.now differ }
+{
+    !fails.is_empty() || differ
+}
+
+/// How the program ends where no failure is told.
+fn passed(asks: bool, whole: bool) -> Outcome
+    ensures { result ≡ passed_of asks whole }
+{
+    if asks && !whole {
+        return Outcome::Cut;
     }
     Outcome::Ended(Status::Done)
+}
+
+/// How the program ends where a search so far told these endings.
+pub fn ended(fails: &[Failing<'_>], differ: bool, extent: Extent, list: &[Ending]) -> Outcome
+    ensures { result ≡ outcome_of (tells_failure fails.now differ list.now) (asks_failure fails.now differ) (is_whole_extent extent) }
+{
+    if tells(fails, differ, list) {
+        return Outcome::Failed;
+    }
+    passed(asks(fails, differ), is_whole(extent))
 }

@@ -1,15 +1,28 @@
 //! The words of the command line.
 
-ghost use Rattle.std.specs.Prelude.{◌≡◌, ◌≤◌, IfOk, IfSome, OnOk, Some, length};
-ghost use Rattle.xousorders.specs.Words.{IsName, is_option as is_option_word};
+ghost use Rattle.std.specs.Option.{option_copied};
+ghost use Rattle.std.specs.Prelude.{◌≡◌, ℕ, codes, List, map, Option};
+ghost use Rattle.order_model.specs.declared.failing.Failing.{Failing};
+ghost use Rattle.xk_base.specs.declared.events.Event.{Event};
+ghost use Rattle.xousorders.specs.Answers.{Answers};
+ghost use Rattle.xousorders.specs.Arguments.{argument_in, is_one_of, texts, values_in};
+ghost use Rattle.xousorders.specs.Words.{AreFailures, AreOnce, Asks, IsFolder, Reads};
 
-use event_text::read_digits;
+use crate::arguments::{Argument, Unread, arguments_of};
+use crate::asked::{events_of, image_of, number_of, value_of};
+use crate::failing_words::failings_of;
+use crate::said::{is_given, values};
+use crate::sight_words::sights_of;
+use order_model::{Failing, Sights};
 use std::alloc::Global;
+use xk_base::Event;
 use xk_base::limits::STEP_LIMIT;
-use xk_base::{Event, Pid};
 
 /// The most events that may come once.
 const ONCE_LIMIT: usize = 255;
+
+/// The most failures that are asked for.
+const FAILURE_LIMIT: usize = 255;
 
 /// What is asked for.
 #[derive(Drop)]
@@ -27,172 +40,109 @@ pub struct Words<'a> {
     pub once: Vec<Event>,
     /// The folder for event files.
     pub folder: Option<&'a str>,
-    /// Whether there is to be one ending at most.
-    pub one: bool,
+    /// What is seen of endings.
+    pub see: Sights,
+    /// Whether the console is told as hexadecimal digits.
+    pub hex: bool,
+    /// What makes an ending a failure.
+    pub fails: Vec<Failing<'a>>,
+    /// Whether more than one ending is a failure.
+    pub differ: bool,
+    /// Whether the search ends at the first failure.
+    pub first: bool,
 }
 
-/// Why the words aren't read.
-pub enum Unread {
-    Usage,
-    NoMemory,
-}
-
-/// A word that another one follows.
-#[derive(Clone, Copy)]
-enum Flag {
-    Quantum,
-    Steps,
-    States,
-    From,
-    Irq,
-    Kill,
-    Write,
-}
-
-fn flag_of(word: &str) -> Option<Flag> {
-    match word {
-        "--quantum" => Some(Flag::Quantum),
-        "--steps" => Some(Flag::Steps),
-        "--states" => Some(Flag::States),
-        "--from" => Some(Flag::From),
-        "--irq" => Some(Flag::Irq),
-        "--kill" => Some(Flag::Kill),
-        "--write" => Some(Flag::Write),
-        _ => None,
-    }
-}
-
-/// The number that a word spells, if it is from `least` to `most`.
-fn number(word: &str, least: u32, most: u32) -> Option<u32>
-    ensures least { IfSome result (λ n. least ≤ n) }
-    ensures most { IfSome result (λ n. n ≤ most) }
+/// The folder for event files, which has a name.
+fn folder_of<'a>(alloc: Global, arguments: &[Argument<'a>]) -> Result<Option<&'a str>, Unread>
+    ensures { let names = values_in (codes "--write") (map argument_in arguments.now) in
+        Answers (λ folder. IsFolder names (option_copied folder)) (λ (folder : Option (List ℕ)). IsFolder names folder) result }
 {
-    let number = read_digits(word.as_bytes())?;
-    if number < u64::from(least) || number > u64::from(most) {
-        return None;
+    let folder = value_of(alloc, arguments, "--write")?;
+    match folder {
+        Some("") => Err(Unread::Usage),
+        _ => Ok(folder),
     }
-    Some(number as u32)
 }
 
-/// A number is set, where it is one.
-fn set(to: &mut u32, number: Option<u32>) -> Result<(), Unread> {
-    match number {
-        Some(number) => {
-            *to = number;
-            Ok(())
+/// The events that may come, of which there are few.
+fn once_of(alloc: Global, arguments: &[Argument<'_>]) -> Result<Vec<Event>, Unread>
+    ensures { let args = map argument_in arguments.now in
+        Answers (λ once. AreOnce args once.items) (λ (once : List Event). AreOnce args once) result }
+{
+    let once = events_of(alloc, arguments)?;
+    if once.len() > ONCE_LIMIT {
+        return Err(Unread::Usage);
+    }
+    Ok(once)
+}
+
+/// Whether a word is among these.
+fn has_word(words: &[&str], word: &str) -> bool
+    ensures { result ≡ is_one_of (map (λ word. word.now) words.now) word.now }
+{
+    for other in words {
+        if word == *other {
+            return true;
         }
-        None => Err(Unread::Usage),
     }
+    false
 }
 
-/// A name is set, where none was yet.
-fn name<'a>(to: &mut Option<&'a str>, word: &'a str) -> Result<(), Unread>
-    ensures { OnOk result (to.new ≡ Some word.entry) }
+/// What these words ask to fail, where it is seen.
+fn failures_of<'a>(
+    alloc: Global,
+    words: &[&'a str],
+    see: Sights,
+) -> Result<Vec<Failing<'a>>, Unread>
+    ensures { let texts = map (λ word. word.now) words.now in
+        Answers (λ fails. AreFailures texts see.exits fails.items) (λ (fails : List Failing). AreFailures texts see.exits fails) result }
 {
-    if to.is_some() {
+    if words.len() > FAILURE_LIMIT {
         return Err(Unread::Usage);
     }
-    *to = Some(word);
-    Ok(())
-}
-
-/// An event is added to those that may come, where it is one.
-fn add(once: &mut Vec<Event>, event: Option<Event>) -> Result<(), Unread> {
-    let Some(event) = event else {
-        return Err(Unread::Usage);
-    };
-    match once.push(event) {
-        Ok(()) => Ok(()),
-        Err(_) => Err(Unread::NoMemory),
-    }
-}
-
-/// The word behind a flag is taken.
-fn take<'a>(words: &mut Words<'a>, flag: Flag, word: &'a str) -> Result<(), Unread> {
-    match flag {
-        Flag::Quantum => set(&mut words.quantum, number(word, 1, STEP_LIMIT)),
-        Flag::Steps => set(&mut words.steps, number(word, 1, STEP_LIMIT)),
-        Flag::States => set(&mut words.states, number(word, 1, u32::MAX)),
-        Flag::From => name(&mut words.before, word),
-        Flag::Write if word.is_empty() => Err(Unread::Usage),
-        Flag::Write => name(&mut words.folder, word),
-        Flag::Irq => add(
-            &mut words.once,
-            number(word, 0, 31).map(|k| Event::Irq(k as u8)),
-        ),
-        Flag::Kill => add(
-            &mut words.once,
-            number(word, 0, 255).map(|pid| Event::Kill(Pid(pid as u8))),
-        ),
-    }
-}
-
-/// Whether a word is an option: it begins with two dashes.
-fn is_option(word: &str) -> bool
-    ensures { result ≡ is_option_word word.now }
-{
-    word.as_bytes().starts_with(b"--")
-}
-
-/// A word that follows no flag is taken. One that is an option is no name of an image.
-fn take_alone<'a>(
-    words: &mut Words<'a>,
-    image: &mut Option<&'a str>,
-    word: &'a str,
-) -> Result<(), Unread>
-    ensures { IfSome image.old (λ name. IsName name.now) → OnOk result (IfSome image.new (λ name. IsName name.now)) }
-{
-    if word == "--one" {
-        words.one = true;
-        return Ok(());
-    }
-    if is_option(word) {
+    if !see.exits && has_word(words, "exit") {
         return Err(Unread::Usage);
     }
-    name(image, word)
-}
-
-/// The words of a command line without any.
-fn no_words<'a>(alloc: Global) -> Words<'a> {
-    Words {
-        image: "",
-        quantum: 1_000,
-        steps: 100_000,
-        states: 100_000,
-        before: None,
-        once: Vec::new(alloc),
-        folder: None,
-        one: false,
+    if !see.exits && has_word(words, "fault") {
+        return Err(Unread::Usage);
     }
+    failings_of(alloc, words)
 }
 
-/// Reads the words. Few events may come once.
+/// What the arguments ask for.
+fn words_of<'a>(alloc: Global, arguments: &[Argument<'a>]) -> Result<Words<'a>, Unread>
+    ensures { let args = map argument_in arguments.now in Answers (Asks args) (Asks args) result }
+{
+    let image = image_of(alloc, arguments)?;
+    let quantum = number_of(alloc, arguments, "--quantum", 1, STEP_LIMIT, 1_000)?;
+    let steps = number_of(alloc, arguments, "--steps", 1, STEP_LIMIT, 100_000)?;
+    let states = number_of(alloc, arguments, "--states", 1, u32::MAX, 100_000)?;
+    let before = value_of(alloc, arguments, "--from")?;
+    let folder = folder_of(alloc, arguments)?;
+    let once = once_of(alloc, arguments)?;
+    let see = sights_of(alloc, arguments)?;
+    let asked = values(alloc, arguments, "--fails")?;
+    let fails = failures_of(alloc, &asked, see)?;
+    Ok(Words {
+        image,
+        quantum,
+        steps,
+        states,
+        before,
+        once,
+        folder,
+        see,
+        hex: is_given(arguments, "--hex"),
+        fails,
+        differ: is_given(arguments, "--one") | has_word(&asked, "differ"),
+        first: is_given(arguments, "--first"),
+    })
+}
+
+/// Reads the words of a command line.
 pub fn read_words<'a>(alloc: Global, all: &'a [String]) -> Result<Words<'a>, Unread>
-    ensures few { IfOk result (λ words. length words.once.items ≤ 255) }
-    ensures named { IfOk result (λ words. IsName words.image.now) }
+    ensures { Reads (texts all.now) result }
 {
-    let mut words = no_words(alloc);
-    let mut image = None;
-    let mut waiting = None;
-    for word in all {
-        let word = word.as_str();
-        match waiting {
-            Some(flag) => {
-                waiting = None;
-                take(&mut words, flag, word)?;
-            }
-            None => match flag_of(word) {
-                Some(flag) => waiting = Some(flag),
-                None => take_alone(&mut words, &mut image, word)?,
-            },
-        }
-    }
-    let (Some(image), None) = (image, waiting) else {
-        return Err(Unread::Usage);
-    };
-    if words.once.len() > ONCE_LIMIT {
-        return Err(Unread::Usage);
-    }
-    words.image = image;
-    Ok(words)
+    let arguments = arguments_of(alloc, all)?;
+    words_of(alloc, &arguments)
 }

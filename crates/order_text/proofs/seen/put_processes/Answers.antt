@@ -16,7 +16,7 @@ loop-place-init c file = sym (append-nil c.args.text.now.items)
 
 pub loop-place-preserved : goal.loop-place-preserved
 loop-place-preserved c file =
-    next_piece process_text (λ (k : ℕ). process_seen (machine_of file c.args.state.now) (exit_in c.args.ends.now) (record { 0 = k + 2 })) c.args.text.now.items
+    next_piece (process_text c.args.sights) (λ (k : ℕ). process_seen (machine_of file c.args.state.now) (exit_in c.args.ends.now) (record { 0 = k + 2 })) c.args.text.now.items
     c.loop-place.text.items c.put_process.new.text.items c.loop-place.place (c.loop-place.invariant file) (c.in_ok-put_process.ensures file)
 
 pub returns : goal.returns
@@ -24,4 +24,4 @@ returns c file =
     let all : c.loop-place.place ≡ c.args.state.now.n = omega (arith, c.loop-place-test.false) in
     c.loop-place.invariant file
     ∙ ap (λ (n : ℕ). c.args.text.now.items
-    ++ flat_map process_text (map (λ k. process_seen (machine_of file c.args.state.now) (exit_in c.args.ends.now) (record { 0 = k + 2 })) (listed_below n (λ k. true)))) all
+    ++ flat_map (process_text c.args.sights) (map (λ k. process_seen (machine_of file c.args.state.now) (exit_in c.args.ends.now) (record { 0 = k + 2 })) (listed_below n (λ k. true)))) all

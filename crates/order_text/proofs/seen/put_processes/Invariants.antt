@@ -13,4 +13,4 @@ abbrev pub invariant-loop-place : goal.invariant-loop-place
 invariant-loop-place l =
     (file : List ℕ) → l.text.items
     ≡ l.initial.text.items
-    ++ flat_map process_text (map (λ k. process_seen (machine_of file l.state) (exit_in l.ends) (record { 0 = k + 2 })) (listed_below l.place (λ k. true)))
+    ++ flat_map (process_text l.sights) (map (λ k. process_seen (machine_of file l.state) (exit_in l.ends) (record { 0 = k + 2 })) (listed_below l.place (λ k. true)))

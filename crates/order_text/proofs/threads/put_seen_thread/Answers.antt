@@ -22,7 +22,7 @@ returns-in-Some c file =
     ∙ (ap (λ (n : ℕ). old ++ (decimal n ++ (codes "." ++ decimal c.from-2.result))) c.from.ensures
     ∙ ap (λ (n : ℕ). old ++ (decimal who.pid.0 ++ (codes "." ++ decimal n))) c.from-2.ensures) in
     subst (λ (xs : List ℕ). OnOk c.put_about.result (c.put_about.new.text.items ≡ xs))
-    (two_pieces old (thread_text who) (about_text who.pid about) c.put_thread.new.text.items _ first
-    (ap (λ (n : ℕ). c.put_thread.new.text.items ++ about_text (record { 0 = n }) about) c.from-in-Some.ensures)
-    ∙ ap (λ (seen : ThreadSeen). old ++ (thread_text who ++ about_text who.pid seen)) (sym (row_seen file c.args.state.now who row found)))
+    (two_pieces old (thread_text who) (about_text c.args.named who.pid about) c.put_thread.new.text.items _ first
+    (ap (λ (n : ℕ). c.put_thread.new.text.items ++ about_text c.args.named (record { 0 = n }) about) c.from-in-Some.ensures)
+    ∙ ap (λ (seen : ThreadSeen). old ++ (thread_text who ++ about_text c.args.named who.pid seen)) (sym (row_seen file c.args.state.now who row found)))
     (c.put_about.ensures file)

@@ -11,7 +11,7 @@ use Rattle.order_text.proofs.threads.put_threads.Goals as goal
 
 pub loop-who-preserved : goal.loop-who-preserved
 loop-who-preserved c file =
-    let f = λ (who : ThreadId). thread_seen_text (thread_seen (machine_of file c.args.state.now) who) in
+    let f = λ (who : ThreadId). thread_seen_text c.args.named (thread_seen (machine_of file c.args.state.now) who) in
     let who : ThreadId = record { pid = record { 0 = 0 }; tid = record { 0 = 0 } } in
     next_item (λ (who : ThreadId). codes ", " ++ f who) c.put_seen_thread.new.text.items c.loop-who.text.items
     c.put_seen_thread-in-loop-who.new.text.items c.in-Some.others.now c.loop-who.who-index who c.loop-who-test.true
@@ -21,7 +21,7 @@ loop-who-preserved c file =
 
 pub returns : goal.returns
 returns c file =
-    let f = λ (who : ThreadId). thread_seen_text (thread_seen (machine_of file c.args.state.now) who) in
+    let f = λ (who : ThreadId). thread_seen_text c.args.named (thread_seen (machine_of file c.args.state.now) who) in
     let more = λ (xs : List ThreadId). flat_map (λ who. codes ", " ++ f who) xs in
     two_pieces c.args.text.now.items (f c.in-Some.first.now) (more c.in-Some.others.now) c.put_seen_thread.new.text.items c.loop-who.text.items
     (c.in_ok-put_seen_thread.ensures file)

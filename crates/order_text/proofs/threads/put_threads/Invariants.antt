@@ -10,4 +10,4 @@ use Rattle.order_text.proofs.threads.put_threads.Given as goal
 abbrev pub invariant-loop-who : goal.invariant-loop-who
 invariant-loop-who l =
     (file : List ℕ) → l.text.items
-    ≡ l.initial.text.items ++ flat_map (λ who. codes ", " ++ thread_seen_text (thread_seen (machine_of file l.state) who)) (take l.who-index l.others)
+    ≡ l.initial.text.items ++ flat_map (λ who. codes ", " ++ thread_seen_text l.named (thread_seen (machine_of file l.state) who)) (take l.who-index l.others)

@@ -6,8 +6,7 @@ use Rattle.order_model.specs.Endings.{Held, Kept, Queued}
 use Rattle.snapshot_rows.specs.declared.state.MessageRow.{MessageRow}
 use Rattle.snapshot_rows.specs.Machines.{server_of}
 use Rattle.xk_base.specs.declared.ids.Sid.{Sid}
-use Rattle.order_text.specs.Names.{name_text}
-use Rattle.order_text.specs.Texts.{kept_text}
+use Rattle.order_text.specs.Texts.{kept_text, server_text}
 use Rattle.order_text.proofs.KeptLemmas.{held_there, kept_here, kept_nowhere, not_there, queued_there, row_place}
 use Rattle.order_text.proofs.RowLemmas.{untold_at}
 use Rattle.order_text.proofs.TextLemmas.{two_pieces}
@@ -24,11 +23,11 @@ returns-then-has_message c file =
     let kept = kept_here file c.args.state.now c.requires c.args.number c.as_slice-servers.result.now c.as_slice-servers.ensures
     c.loop-server.server-index c.loop-server.invariant.rest row ((server_of row).sid, Queued) c.loop-server-test.true c.server-item.is
     (queued_there c.args.number row there) in
-    subst (λ (xs : List ℕ). OnOk c.put_name.result (c.put_name.new.text.items ≡ xs))
-    (two_pieces c.args.text.now.items (codes ", queued at ") (name_text (record { 0 = row.sid })) c.put.new.text.items _
-    (c.in_ok-put.ensures ∙ ap (λ (xs : List ℕ). xs ++ codes ", queued at ") c.loop-server.invariant.text) refl
-    ∙ ap (λ (o : Option (Sid × Kept)). c.args.text.now.items ++ kept_text o) (sym kept))
-    c.put_name.ensures
+    subst (λ (xs : List ℕ). OnOk c.put_at.result (c.put_at.new.text.items ≡ xs))
+    (two_pieces c.args.text.now.items (codes ", queued") (server_text c.args.named (record { 0 = row.sid })) c.put.new.text.items _
+    (c.in_ok-put.ensures ∙ ap (λ (xs : List ℕ). xs ++ codes ", queued") c.loop-server.invariant.text) refl
+    ∙ ap (λ (o : Option (Sid × Kept)). c.args.text.now.items ++ kept_text c.args.named o) (sym kept))
+    c.put_at.ensures
 
 pub returns-then-has_message-2 : goal.returns-then-has_message-2
 returns-then-has_message-2 c file =
@@ -40,11 +39,11 @@ returns-then-has_message-2 c file =
     let kept = kept_here file c.args.state.now c.requires c.args.number c.as_slice-servers.result.now c.as_slice-servers.ensures
     c.loop-server.server-index c.loop-server.invariant.rest row ((server_of row).sid, Held) c.loop-server-test.true c.server-item.is
     (held_there c.args.number row not_queued there) in
-    subst (λ (xs : List ℕ). OnOk c.put_name-then-has_message-2.result (c.put_name-then-has_message-2.new.text.items ≡ xs))
-    (two_pieces c.args.text.now.items (codes ", held at ") (name_text (record { 0 = row.sid })) c.put-then-has_message-2.new.text.items _
-    (c.in_ok-put-2.ensures ∙ ap (λ (xs : List ℕ). xs ++ codes ", held at ") c.loop-server.invariant.text) refl
-    ∙ ap (λ (o : Option (Sid × Kept)). c.args.text.now.items ++ kept_text o) (sym kept))
-    c.put_name-then-has_message-2.ensures
+    subst (λ (xs : List ℕ). OnOk c.put_at-then-has_message-2.result (c.put_at-then-has_message-2.new.text.items ≡ xs))
+    (two_pieces c.args.text.now.items (codes ", held") (server_text c.args.named (record { 0 = row.sid })) c.put-then-has_message-2.new.text.items _
+    (c.in_ok-put-2.ensures ∙ ap (λ (xs : List ℕ). xs ++ codes ", held") c.loop-server.invariant.text) refl
+    ∙ ap (λ (o : Option (Sid × Kept)). c.args.text.now.items ++ kept_text c.args.named o) (sym kept))
+    c.put_at-then-has_message-2.ensures
 
 pub loop-server-preserved : goal.loop-server-preserved
 loop-server-preserved c =
@@ -66,4 +65,4 @@ returns c file =
     let nowhere = kept_nowhere file c.args.state.now c.requires c.args.number c.as_slice-servers.result.now c.as_slice-servers.ensures
     c.loop-server.server-index c.loop-server.invariant.rest c.loop-server-test.false in
     c.loop-server.invariant.text
-    ∙ (sym (append-nil c.args.text.now.items) ∙ ap (λ (o : Option (Sid × Kept)). c.args.text.now.items ++ kept_text o) (sym nowhere))
+    ∙ (sym (append-nil c.args.text.now.items) ∙ ap (λ (o : Option (Sid × Kept)). c.args.text.now.items ++ kept_text c.args.named o) (sym nowhere))

@@ -8,6 +8,6 @@ use Rattle.order_text.proofs.waits.put_waits.Goals as goal
 
 pub returns : goal.returns
 returns c file =
-    let place = kept_text (kept_at (machine_of file c.args.state.now) (record { 0 = c.args.number })) in
+    let place = kept_text c.args.named (kept_at (machine_of file c.args.state.now) (record { 0 = c.args.number })) in
     subst (λ (xs : List ℕ). OnOk c.put_kept.result (c.put_kept.new.text.items ≡ xs))
     (two_pieces c.args.text.now.items (codes " waits") place c.put.new.text.items _ c.in_ok-put.ensures refl) (c.put_kept.ensures file)

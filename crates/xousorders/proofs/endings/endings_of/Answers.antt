@@ -12,7 +12,7 @@ use Rattle.xousorders.proofs.endings.endings_of.Goals as goal
 pub loop-node-init : goal.loop-node-init
 loop-node-init c =
     let t = telling_of (searching_of c.args.quest.now.subject) c.args.found.now.edges.items c.args.found.now.notes.items in
-    record { subject = refl; told = no_endings t _ c.new.ensures.items c.new-2.ensures.items }
+    record { subject = refl; told = no_endings t c.args.view.now _ c.new.ensures.items c.new-2.ensures.items }
 
 pub pass-requires-clause-sound : goal.pass-requires-clause-sound
 pass-requires-clause-sound c =
@@ -27,8 +27,8 @@ pass-requires-clause-told c =
 pub loop-node-preserved : goal.loop-node-preserved
 loop-node-preserved c =
     let A : Subject → Type 0 =
-    λ s. AreEndings (telling_of (searching_of s) c.args.found.now.edges.items c.args.found.now.notes.items) c.loop-node.node c.loop-node.endings
-    → AreEndings (telling_of (searching_of s) c.args.found.now.edges.items c.args.found.now.notes.items) (c.loop-node.node + 1)
+    λ s. AreEndings (telling_of (searching_of s) c.args.found.now.edges.items c.args.found.now.notes.items) c.args.view.now c.loop-node.node c.loop-node.endings
+    → AreEndings (telling_of (searching_of s) c.args.found.now.edges.items c.args.found.now.notes.items) c.args.view.now (c.loop-node.node + 1)
     c.pass.new.endings in
     record {
       subject = c.pass.ensures.subject ∙ c.loop-node.invariant.subject;
@@ -38,7 +38,7 @@ loop-node-preserved c =
 pub returns-clause-all : goal.returns-clause-all
 returns-clause-all c =
     let done : c.loop-node.node ≡ length c.args.found.now.notes.items = omega arith in
-    subst (λ n. AreEndings (telling_of (searching_of c.args.quest.now.subject) c.args.found.now.edges.items c.args.found.now.notes.items) n c.loop-node.endings)
+    subst (λ n. AreEndings (telling_of (searching_of c.args.quest.now.subject) c.args.found.now.edges.items c.args.found.now.notes.items) c.args.view.now n c.loop-node.endings)
     done c.loop-node.invariant.told
 
 pub returns-in_err-pass-clause-stopped : goal.returns-in_err-pass-clause-stopped

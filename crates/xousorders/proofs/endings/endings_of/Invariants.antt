@@ -10,5 +10,5 @@ invariant-loop-node l =
     let t = telling_of (searching_of l.fn.quest.subject) l.found.edges.items l.found.notes.items in
     record {
       subject : l.quest.subject ≡ l.fn.quest.subject;
-      told : AreEndings t l.node l.endings;
+      told : AreEndings t l.view l.node l.endings;
     }

@@ -12,5 +12,5 @@ returns-else-note-clause-adds c =
     let notes = c.args.found.now.notes.items in
     let t = telling_of (searching_of c.args.quest.now.subject) c.args.found.now.edges.items notes in
     let there = slice_get_read notes (length notes) c.args.node c.index-note.result.now refl (omega (arith, c.requires.node)) c.index-note.ensures in
-    node_passed t c.args.node c.args.endings.now
+    node_passed t c.args.view.now c.args.node c.args.endings.now
     (ap (λ (o : Option Note). option_map_or (λ (note : Note). note.ends) o false) there ∙ c.if-note.false)

@@ -6,7 +6,10 @@ use Rattle.order_search.specs.Quests.{first_node, next_node, searching_of}
 use Rattle.graph_search.specs.declared.found.Edge.{Edge}
 use Rattle.graph_search.specs.Graph.{node_by}
 use Rattle.graph_search.specs.Paths.{IsTree, labels_to}
-use Rattle.xousorders.proofs.EndingLemmas.{node_told, shown_there}
+use Rattle.order_model.specs.declared.failing.Failing.{Failing}
+use Rattle.order_model.specs.Failing.{first_failing}
+use Rattle.xousorders.proofs.EndingLemmas.{node_told}
+use Rattle.xousorders.proofs.ToldLemmas.{shown_there, within_there}
 use Rattle.xousorders.proofs.RowLemmas.{tellable}
 use Rattle.xousorders.proofs.endings.see.Goals as goal
 
@@ -45,10 +48,12 @@ returns-clause-adds c =
     let told = c.requires.told c.args.node (omega (arith, few)) in
     let labels = c.in_ok-order.ensures ∙ ap (λ (es : List (Edge Move)). labels_to es c.args.node) c.deref.ensures.value in
     let stand = c.in-Ok.ensures.stands told.last (ap (leads_by q.asked q.start) (c.deref-2.ensures.value ∙ labels) ∙ told.leads) in
-    node_told t c.args.node _ _ c.args.endings.now _ c.requires.ends labels
-    (shown_there t c.args.node told _ _ c.new-seen.ensures.items
-    (c.in_ok-put_seen.ensures told.last stand))
-    c.in_ok-add.ensures
+    let view = c.args.view.now in
+    let fails : c.first_failing-fails.result ≡ first_failing view.fails.items told.last =
+    c.first_failing-fails.ensures told.last stand ∙ ap (λ (list : List Failing). first_failing list told.last) c.deref-3.ensures.value in
+    node_told t view c.args.node _ _ c.args.endings.now _ c.requires.ends labels
+    (shown_there t view c.args.node told _ _ _ c.new-seen.ensures.items (c.in_ok-put_seen.ensures told.last stand) fails)
+    (within_there t c.args.node told _ _ stand c.in-Ok.ensures.within) c.in_ok-add.ensures
 
 pub returns-in-Err-clause-stopped : goal.returns-in-Err-clause-stopped
 returns-in-Err-clause-stopped c = c.unplayed.ensures c.args.quest.now.subject c.in-Err.ensures.fault

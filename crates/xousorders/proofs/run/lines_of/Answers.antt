@@ -1,16 +1,22 @@
-use Rattle.std.proofs.Common.{◌≡◌, ◌+◌, ◌∙◌, ◌++◌, List, ℕ, ap, arith, length}
-use Rattle.order_model.specs.declared.moves.Note.{Note}
-use Rattle.xousorders.specs.Lines.{endings_text, extent_line}
-use Rattle.xousorders.specs.Searched.{slices_tried}
+use Rattle.std.proofs.Common.{◌≡◌, ◌∙◌, ◌++◌, List, ℕ, ap, arith, length}
+use Rattle.order_search.specs.Found.{finding_of}
+use Rattle.xousorders.specs.Calls.{searched_line}
+use Rattle.xousorders.specs.Lines.{differ_text, endings_text, failures_text}
+use Rattle.xousorders.specs.declared.endings.Ending.{Ending}
+use Rattle.xousorders.proofs.LineLemmas.{four_pieces}
 use Rattle.xousorders.proofs.run.lines_of.Goals as goal
 
 pub returns : goal.returns
 returns c =
-    let found = c.args.told.now.found in
-    let states : c.len.result + 1 ≡ length found.edges.items + 1 = omega (arith, found.edges.ok.0) in
-    let slices : c.slices_tried-slices.result ≡ slices_tried found.notes.items =
-    c.slices_tried-slices.ensures ∙ ap (λ (ns : List Note). slices_tried ns) c.deref.ensures.value in
+    let told = c.args.told.now in
+    let list = told.endings.list.items in
+    let count : c.len.result ≡ length list = omega (arith, told.endings.list.ok.0) in
+    four_pieces (searched_line (finding_of c.args.quest.now.subject told.found)) (endings_text told.endings)
+    (failures_text c.args.fails.now list) (differ_text c.args.differ (length list)) c.put_searched.new.text.items c.put_endings.new.text.items
+    c.put_failures.new.text.items c.put_differ.new.text.items
+    (c.in_ok-put_searched.ensures
+    ∙ ap (λ (xs : List ℕ). xs ++ searched_line (finding_of c.args.quest.now.subject told.found)) c.new-text.ensures.items)
     c.in_ok-put_endings.ensures
-    ∙ ap (λ (text : List ℕ). text ++ endings_text c.args.told.now.endings)
-    (c.in_ok-put_extent.ensures
-    ∙ (λ i. c.new-text.ensures.items i ++ extent_line (states i) (slices i) found.extent (c.bound.ensures i)))
+    (c.in_ok-put_failures.ensures
+    ∙ ap (λ (es : List Ending). c.put_endings.new.text.items ++ failures_text c.args.fails.now es) c.deref.ensures.value)
+    (c.in_ok-put_differ.ensures ∙ ap (λ (n : ℕ). c.put_failures.new.text.items ++ differ_text c.args.differ n) count)

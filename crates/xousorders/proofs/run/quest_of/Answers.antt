@@ -9,7 +9,7 @@ use Rattle.xousorders.proofs.run.quest_of.Goals as goal
 pub returns-in_err-file-clause-stops : goal.returns-in_err-file-clause-stops
 returns-in_err-file-clause-stops g c steps =
     let files : HostFiles = g.H.Host.file c.args.host.now in
-    let asking : Asking = asking_of c.args.image.now (option_copied c.args.before) c.args.quantum c.args.once.items in
+    let asking : Asking = asking_of c.args.image.now (option_copied c.args.before) c.args.quantum c.args.once.items c.args.exits in
     let rose : Type 0 = Rose (g.H.Host.faults c.args.host.now) (g.H.Host.faults c.read_image.new.host) in
     exit_says c.from_residual.result _ (Stops files asking steps rose) c.from_residual.ensures.1
     (image_stops files asking steps rose _ c.in_err-file.ensures.refused)
@@ -17,7 +17,7 @@ returns-in_err-file-clause-stops g c steps =
 pub returns-in_err-planned-clause-stops : goal.returns-in_err-planned-clause-stops
 returns-in_err-planned-clause-stops g c steps =
     let files : HostFiles = g.H.Host.file c.args.host.now in
-    let asking : Asking = asking_of c.args.image.now (option_copied c.args.before) c.args.quantum c.args.once.items in
+    let asking : Asking = asking_of c.args.image.now (option_copied c.args.before) c.args.quantum c.args.once.items c.args.exits in
     let rose : Type 0 = Rose (g.H.Host.faults c.args.host.now) (g.H.Host.faults c.read_image.new.host) in
     exit_says c.from_residual-in_err-planned.result _ (Stops files asking steps rose) c.from_residual-in_err-planned.ensures.1
     (bytes_stop files asking steps rose c.in_ok-file.file.items c.deref.result.now c.in_ok-file.ensures.read c.deref.ensures.value _
@@ -26,7 +26,7 @@ returns-in_err-planned-clause-stops g c steps =
 pub returns-in_err-before-clause-stops : goal.returns-in_err-before-clause-stops
 returns-in_err-before-clause-stops g c steps =
     let files : HostFiles = g.H.Host.file c.args.host.now in
-    let asking : Asking = asking_of c.args.image.now (option_copied c.args.before) c.args.quantum c.args.once.items in
+    let asking : Asking = asking_of c.args.image.now (option_copied c.args.before) c.args.quantum c.args.once.items c.args.exits in
     let old : ℕ = g.H.Host.faults c.args.host.now in
     let mid : ℕ = g.H.Host.faults c.read_image.new.host in
     let new : ℕ = g.H.Host.faults c.read_events.new.host in
@@ -38,7 +38,7 @@ returns-in_err-before-clause-stops g c steps =
 pub returns-in-Ok-begin_alone-clause-asked : goal.returns-in-Ok-begin_alone-clause-asked
 returns-in-Ok-begin_alone-clause-asked g c =
     let files : HostFiles = g.H.Host.file c.args.host.now in
-    let asking : Asking = asking_of c.args.image.now (option_copied c.args.before) c.args.quantum c.args.once.items in
+    let asking : Asking = asking_of c.args.image.now (option_copied c.args.before) c.args.quantum c.args.once.items c.args.exits in
     let planned = c.in_ok-planned.planned in
     subst (IsAsked files asking) (sym c.in-Ok.ensures) (record {
       image = c.in_ok-file.ensures.read;
@@ -58,7 +58,7 @@ returns-in-Ok-begin_alone-clause-asked g c =
 pub returns-clause-stops : goal.returns-clause-stops
 returns-clause-stops g c steps =
     let files : HostFiles = g.H.Host.file c.args.host.now in
-    let asking : Asking = asking_of c.args.image.now (option_copied c.args.before) c.args.quantum c.args.once.items in
+    let asking : Asking = asking_of c.args.image.now (option_copied c.args.before) c.args.quantum c.args.once.items c.args.exits in
     let planned = c.in_ok-planned.planned in
     let asked : IsAsked files asking c.in-Ok.quest.subject =
     subst (IsAsked files asking) (sym c.in-Ok.ensures) (record {

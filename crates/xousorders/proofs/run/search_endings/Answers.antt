@@ -2,7 +2,7 @@ use Rattle.std.proofs.Common.{subst, sym}
 use Rattle.order_search.proofs.QuestLemmas.{start_matched}
 use Rattle.xousorders.specs.Searched.{IsSearched, IsStopped}
 use Rattle.xousorders.proofs.CallLemmas.{exit_says, stopped_of}
-use Rattle.xousorders.proofs.EndingLemmas.{says_so}
+use Rattle.xousorders.proofs.ToldLemmas.{says_so}
 use Rattle.xousorders.proofs.run.search_endings.Goals as goal
 
 pub endings_of-requires-clause-sound : goal.endings_of-requires-clause-sound
@@ -14,7 +14,7 @@ endings_of-requires-clause-told g c = c.in_ok-found.ensures.nodes.orders
 pub returns-clause-so : goal.returns-clause-so
 returns-clause-so g c =
     let quest = c.search_all.new.quest in
-    says_so c.args.states quest.subject _ (record { found = c.in_ok-found.found; endings = c.in_ok-endings.endings }) c.endings_of.ensures.subject (start_matched quest.subject quest.lawful quest.can_start)
+    says_so c.args.states c.args.view.now quest.subject _ (record { found = c.in_ok-found.found; endings = c.in_ok-endings.endings }) c.endings_of.ensures.subject (start_matched quest.subject quest.lawful quest.can_start)
     c.in_ok-found.ensures.nodes c.in_ok-found.ensures.whole c.in_ok-endings.ensures.all
 
 pub returns-clause-subject : goal.returns-clause-subject

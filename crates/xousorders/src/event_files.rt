@@ -1,4 +1,4 @@
-//! The folder to which event files are written.
+//! Where event files are written.
 
 ghost use Rattle.std.specs.Prelude.{◌≡◌, ◌≤◌, ◌∷◌, [], ℕ, List, Option, OnErr, OnOk};
 ghost use Rattle.xk_base.specs.Outside.{Rose};
@@ -9,8 +9,8 @@ use std::fs;
 use std::rt::Files;
 use xk_base::Failed;
 
-/// Where event files are written, each by its number.
-pub trait Folder {
+/// Where event files are written: each into a folder of that name, by its number.
+pub trait EventFiles {
     ghost use Rattle.xousorders.specs.Files.{EventFile};
 
     /// Where it is told: the files that were written, in order.
@@ -19,37 +19,35 @@ pub trait Folder {
     /// The count of faults.
     ghost faults: { Self → ℕ };
 
-    /// Writes the event file of this number.
-    fn write(&mut self, number: u64, bytes: &[u8]) -> Result<(), Failed>
-        ensures written { OnOk result (Grows (written self.old) (written self.new) (record { number = number; bytes = bytes.now } ∷ [])) }
+    /// Writes the event file of this number into the folder.
+    fn write(&mut self, folder: &str, number: u64, bytes: &[u8]) -> Result<(), Failed>
+        ensures written { OnOk result (Grows (written self.old) (written self.new)
+            (record { folder = folder.now; number = number; bytes = bytes.now } ∷ [])) }
         ensures cause { OnErr result (Rose (faults self.old) (faults self.new)) }
         ensures never_falls { faults self.old ≤ faults self.new };
 }
 
-/// A folder on disk. It doesn't tell what was written.
+/// The disk. It doesn't tell what was written.
 #[derive(Drop)]
-pub struct DiskFolder<'a, R: Files> {
+pub struct DiskFiles<'a, R: Files> {
     rt: &'a R,
     alloc: Global,
-    name: &'a str,
     faults: u64,
 }
 
-impl<'a, R: Files> DiskFolder<'a, R> {
-    /// The folder of that name.
-    pub fn new(rt: &'a R, alloc: Global, name: &'a str) -> DiskFolder<'a, R> {
-        DiskFolder {
+impl<'a, R: Files> DiskFiles<'a, R> {
+    /// The disk, before anything failed.
+    pub fn new(rt: &'a R, alloc: Global) -> DiskFiles<'a, R> {
+        DiskFiles {
             rt,
             alloc,
-            name,
             faults: 0,
         }
     }
 
     /// Writes a file under the name of its number; without memory for the name it isn't written.
-    fn put(&self, number: u64, bytes: &[u8]) -> Result<(), Failed> {
+    fn put(&self, folder: &str, number: u64, bytes: &[u8]) -> Result<(), Failed> {
         let alloc = self.alloc;
-        let folder = self.name;
         let Ok(name) = format!(in alloc; "{folder}/ending-{number}.events") else {
             return Err(Failed);
         };
@@ -60,15 +58,15 @@ impl<'a, R: Files> DiskFolder<'a, R> {
     }
 }
 
-impl<'a, R: Files> Folder for DiskFolder<'a, R> {
+impl<'a, R: Files> EventFiles for DiskFiles<'a, R> {
     ghost use Rattle.std.specs.Prelude.{None, min};
 
-    ghost written = { λ folder. None };
+    ghost written = { λ files. None };
 
-    ghost faults = { λ folder. min folder.faults 18446744073709551615 };
+    ghost faults = { λ files. min files.faults 18446744073709551615 };
 
-    fn write(&mut self, number: u64, bytes: &[u8]) -> Result<(), Failed> {
-        match self.put(number, bytes) {
+    fn write(&mut self, folder: &str, number: u64, bytes: &[u8]) -> Result<(), Failed> {
+        match self.put(folder, number, bytes) {
             Ok(()) => Ok(()),
             Err(Failed) => {
                 self.faults = self.faults.saturating_add(1);

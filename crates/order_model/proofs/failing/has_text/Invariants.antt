@@ -1,0 +1,8 @@
+use Rattle.std.proofs.Common.{◌≡◌, ◌<◌, ℕ, drop, false}
+use Rattle.std.specs.Prelude.{nat_eq}
+use Rattle.std.specs.List.{starts_with}
+use Rattle.order_model.proofs.failing.has_text.Given as goal
+
+-- it stands at none of the places before
+abbrev pub invariant-loop-start : goal.invariant-loop-start
+invariant-loop-start l = (k : ℕ) → k < l.start → starts_with nat_eq (drop k l.bytes) l.text ≡ false
