@@ -1,5 +1,5 @@
 -- How a call of the program ends, and what it tells of a search.
-use Rattle.std.specs.Prelude.{◌≡◌, ◌<◌, ◌⊎◌, ◌+◌, ◌++◌, ℕ, Bool, true, All, IsSome, List, [], length, None, Option, Some}
+use Rattle.std.specs.Prelude.{◌≡◌, ◌<◌, ◌⊎◌, ◌||◌, ◌+◌, ◌++◌, ℕ, Bool, true, All, IsSome, List, [], length, None, Option, Some}
 use Rattle.std.specs.Option.{option_copied}
 use Rattle.std.specs.declared.cmp.Ordering.{Ordering}
 use Rattle.event_text.specs.Spelling.{AreAskable}
@@ -109,15 +109,19 @@ TellsFailure command r =
 abbrev pub AsksFailure : Command → Type 0
 AsksFailure command = asks_failure command.view.fails.items command.differ ≡ true
 
--- fewer nodes are kept, as the search was to stop at a failure, and one is told
-pub record StopsEarly (first : Bool) (states : ℕ) (tells : Bool) (most : ℕ) : Type 0 where
+-- a failure is told, or the search is whole
+abbrev pub is_enough : List Failing → Bool → Report → Bool
+is_enough fails differ r = tells_failure fails differ r.endings.list.items || is_whole r.finding.extent
+
+-- fewer nodes were to be kept, as the search was to stop at a failure, and it found enough
+pub record StopsEarly (first : Bool) (states : ℕ) (enough : Bool) (most : ℕ) : Type 0 where
   pub asked : first ≡ true
   pub fewer : most < states
-  pub told : tells ≡ true
+  pub found : enough ≡ true
 
 -- how many nodes are kept at most
 abbrev pub IsMost : Bool → ℕ → Bool → ℕ → Type 0
-IsMost first states tells most = (most ≡ states) ⊎ StopsEarly first states tells most
+IsMost first states enough most = (most ≡ states) ⊎ StopsEarly first states enough most
 
 -- how the program ends where all of it was written
 abbrev pub outcome_in : Command → Report → Outcome
@@ -137,10 +141,10 @@ module _ (cmp : List ℕ → List ℕ → Ordering) where
     pub endings : TellsEndings (telling_in r.finding) view r.endings
     pub whole : r.finding.extent ≡ Whole → DigestsTell (searching_of r.finding.searched) cmp → FindsAll view r
 
-  -- .. or of fewer nodes, where it was to stop at a failure, and one is told
+  -- .. or of fewer nodes, where it was to stop at a failure, and one is told or it is whole
   pub record SaysSoSoon (first : Bool) (states : ℕ) (view : View) (differ : Bool) (r : Report) : Type 0 where
     pub most : ℕ
-    pub kept : IsMost first states (tells_failure view.fails.items differ r.endings.list.items) most
+    pub kept : IsMost first states (is_enough view.fails.items differ r) most
     pub so : SaysSo most view r
 
   -- it is so of what the words ask for, behind events that are played whole

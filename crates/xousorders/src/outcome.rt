@@ -63,7 +63,7 @@ pub fn unplayed(answer: Unanswered<OrderFault>) -> Status
 }
 
 /// Whether the search is whole.
-fn is_whole(extent: Extent) -> bool
+pub fn is_whole(extent: Extent) -> bool
     ensures { result ≡ is_whole_extent extent }
 {
     match extent {

@@ -5,10 +5,11 @@ ghost use Rattle.std.specs.Prelude.{◌≡◌, ◌<◌, ◌≤◌, ◌++◌, ℕ
 ghost use Rattle.event_text.specs.Spelling.{AreAskable};
 ghost use Rattle.order_search.specs.Faults.{IsBegun};
 ghost use Rattle.order_search.specs.Found.{FindsAllOrders, FindsNodes, finding_of};
+ghost use Rattle.order_search.specs.declared.subject.Subject.{Subject};
 ghost use Rattle.xk_base.specs.Outside.{Rose};
 ghost use Rattle.xk_ports.specs.Told.{Grows};
 ghost use Rattle.xousorders.specs.Asked.{IsAsked, Stops, asking_of};
-ghost use Rattle.xousorders.specs.Calls.{AreSpelled, Ends, SaysSo, SaysSoSoon, TellsSearch, command_in, files_in, outcome_in, report_lines, report_of, searched_line, sides_of};
+ghost use Rattle.xousorders.specs.Calls.{AreSpelled, Ends, SaysSo, SaysSoSoon, TellsSearch, command_in, files_in, is_enough as is_enough_of, outcome_in, report_lines, report_of, searched_line, sides_of};
 ghost use Rattle.xousorders.specs.Outcomes.{IsUnfiled};
 ghost use Rattle.xousorders.specs.Searched.{IsSearched, IsStopped};
 
@@ -17,7 +18,7 @@ use crate::endings::{Endings, endings_of};
 use crate::event_files::EventFiles;
 use crate::files::write_files;
 use crate::image::{read_events, read_image};
-use crate::outcome::{Outcome, ended, stopped, tells, unplayed};
+use crate::outcome::{Outcome, ended, is_whole, stopped, tells, unplayed};
 use crate::view::View;
 use crate::words::Words;
 use graph_search::{Found, Watch};
@@ -104,7 +105,14 @@ fn first_limit(first: bool, states: usize) -> usize
     }
 }
 
-/// The search, and the endings that it found. One that stops at a failure is made with ever more nodes, as long as none is told.
+/// Whether a failure is told, or the search is whole.
+fn is_enough(fails: &[Failing<'_>], differ: bool, told: &Told) -> bool
+    ensures { (s : Subject) → result ≡ is_enough_of fails.now differ (report_of s told.now) }
+{
+    tells(fails, differ, &told.endings.list) || is_whole(told.found.extent)
+}
+
+/// The search, and the endings that it found. One that stops at a failure is made with ever more nodes, until one is told or it is whole.
 fn search_rounds<W: Watch>(
     alloc: Global,
     quest: &mut Quest,
@@ -122,7 +130,7 @@ fn search_rounds<W: Watch>(
     let mut most = first_limit(first, states);
     while most < states {
         let told = search_endings(alloc, quest, view, most, steps, watch)?;
-        if tells(&view.fails, differ, &told.endings.list) {
+        if is_enough(&view.fails, differ, &told) {
             return Ok(told);
         }
         most = most.saturating_mul(2).min(states);
