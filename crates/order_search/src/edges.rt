@@ -1,12 +1,13 @@
 //! The edges that leave a node.
 
 ghost use Rattle.std.specs.Prelude.{◌≡◌, ◌≤◌, IfErr, IfOk, OnOk, Some, length};
+ghost use Rattle.machine_laws.specs.Reserved.{IsReservedByThread};
 ghost use Rattle.suspend_image.specs.Sheets.{room_for};
 ghost use Rattle.xk_kernel.specs.Knowing.{IsTrusted};
 ghost use Rattle.xk_kernel.specs.Sound.{IsSound, IsUsable, Keeps};
 ghost use Rattle.xk_kernel.specs.State.{machine_of};
 ghost use Rattle.graph_search.specs.Edges.{HasCause};
-ghost use Rattle.order_search.specs.Faults.{IsFault, IsMemory, IsUnchosen};
+ghost use Rattle.order_search.specs.Faults.{IsFault, IsUnchosen};
 ghost use Rattle.order_model.specs.Moves.{Point, leads};
 ghost use Rattle.order_model.specs.Nodes.{node_of};
 ghost use Rattle.order_player.specs.Runs.{point_of};
@@ -22,6 +23,7 @@ use crate::runs::Run;
 use graph_search::{Successor, Unanswered};
 use order_model::{Choice, Move, Orders};
 use order_player::{play_move, play_thread};
+use xk_base::limits::STEP_LIMIT;
 use xk_ports::{SureStore, SwapStore};
 
 /// Makes the choice in a run, one of those that it has.
@@ -63,14 +65,19 @@ impl Quest {
         requires usable { IsUsable run.old.kernel }
         requires trusted { IsTrusted ⟦<SureStore as SwapStore>⟧ run.old.kernel }
         requires came { length run.old.trail.came.items ≡ length self.old.subject.orders.once.items }
+        requires reserved { IsReservedByThread (machine_of ⟦<SureStore as SwapStore>⟧.held run.old.kernel) }
         requires room { let m = machine_of ⟦<SureStore as SwapStore>⟧.held run.old.kernel in
             room_for m.processes m.capacity ≤ self.old.sheet.room }
         ensures key { let q = searching_of self.old.subject in
             IfOk result (λ key. IsKeyOf q (node_of q.asked (point_of ⟦<SureStore as SwapStore>⟧ run.old.kernel run.old.trail)) key) }
-        ensures fault { IfErr result IsMemory }
+        ensures fault { let q = searching_of self.old.subject in
+            IfErr result (IsUnchosen q.asked (point_of ⟦<SureStore as SwapStore>⟧ run.old.kernel run.old.trail)) }
         ensures subject { self.new.subject ≡ self.old.subject }
         ensures sound { IsSound ⟦<SureStore as SwapStore>⟧ run.new.kernel }
     {
+        if run.kernel.steps() > STEP_LIMIT {
+            return Err(Unanswered::Fault(OrderFault::Steps));
+        }
         let Ok(()) = run.kernel.save(&mut self.sheet) else {
             return Err(no_memory());
         };
@@ -78,7 +85,55 @@ impl Quest {
             return Err(no_memory());
         };
         let counts = self.subject.orders.bound.is_some();
-        Ok(node_key(self.sheet.as_slice(), counts, &beside, &run.trail.console))
+        match node_key(
+            self.alloc,
+            &mut self.sheet,
+            counts,
+            &beside,
+            &run.trail.console,
+        ) {
+            Ok(key) => Ok(key),
+            Err(_) => Err(no_memory()),
+        }
+    }
+
+    /// The edge by a choice from the node of this path, at the end of which a run is. It ends the run.
+    fn edge_on(
+        &mut self,
+        path: &[Move],
+        run: Run,
+        choice: Choice,
+    ) -> Result<Successor<Move, [u8; 32]>, Unanswered<OrderFault>>
+        requires arrives { let q = searching_of self.old.subject in
+            Arrives q path.now (point_of ⟦<SureStore as SwapStore>⟧ run.kernel run.trail) }
+        requires came { length run.trail.came.items ≡ length self.old.subject.orders.once.items }
+        requires sound { IsSound ⟦<SureStore as SwapStore>⟧ run.kernel }
+        requires usable { IsUsable run.kernel }
+        requires trusted { IsTrusted ⟦<SureStore as SwapStore>⟧ run.kernel }
+        requires room { let m = machine_of ⟦<SureStore as SwapStore>⟧.held run.kernel in
+            room_for m.processes m.capacity ≤ self.old.sheet.room }
+        requires may { let q = searching_of self.old.subject in
+            (p : Point) → Arrives q path.now p → IsChoice q.asked p choice }
+        ensures edge { let q = searching_of self.old.subject in
+            (p : Point) → Arrives q path.now p → IfOk result (λ edge. IsEdge (IsKeyOf q) q.asked p edge) }
+        ensures choice { IfOk result (λ edge. choice_of edge.label ≡ choice) }
+        ensures fault { IfErr result (HasCause (IsFault self.old.subject)) }
+        ensures subject { self.new.subject ≡ self.old.subject }
+    {
+        let mut run = run;
+        let label = match choose(&self.subject.orders, &mut run, choice) {
+            Ok(label) => label,
+            Err(fault) => {
+                run.close();
+                return Err(fault);
+            }
+        };
+        let key = self.key(&mut run);
+        run.close();
+        match key {
+            Ok(key) => Ok(Successor { label, key }),
+            Err(fault) => Err(fault),
+        }
     }
 
     /// The edge by a choice from the node of this path.
@@ -96,29 +151,26 @@ impl Quest {
         ensures fault { IfErr result (HasCause (IsFault self.old.subject)) }
         ensures subject { self.new.subject ≡ self.old.subject }
     {
-        let mut run = self.arrive(path)?;
-        let label = match choose(&self.subject.orders, &mut run, choice) {
-            Ok(label) => label,
-            Err(fault) => {
-                run.close();
-                return Err(fault);
-            }
-        };
-        let key = self.key(&mut run);
-        run.close();
-        match key {
-            Ok(key) => Ok(Successor { label, key }),
-            Err(fault) => Err(fault),
-        }
+        let run = self.arrive(path)?;
+        self.edge_on(path, run, choice)
     }
 
-    /// The edges by these choices, which are those at the end of the path.
+    /// The edges by these choices, which are those at the end of the path. A run that is there makes the first.
     pub(crate) fn edges(
         &mut self,
         path: &[Move],
+        run: Run,
         choices: &[Choice],
     ) -> Result<Vec<Successor<Move, [u8; 32]>>, Unanswered<OrderFault>>
         requires path { IsPath (searching_of self.old.subject) path.now }
+        requires arrives { let q = searching_of self.old.subject in
+            Arrives q path.now (point_of ⟦<SureStore as SwapStore>⟧ run.kernel run.trail) }
+        requires came { length run.trail.came.items ≡ length self.old.subject.orders.once.items }
+        requires sound { IsSound ⟦<SureStore as SwapStore>⟧ run.kernel }
+        requires usable { IsUsable run.kernel }
+        requires trusted { IsTrusted ⟦<SureStore as SwapStore>⟧ run.kernel }
+        requires room { let m = machine_of ⟦<SureStore as SwapStore>⟧.held run.kernel in
+            room_for m.processes m.capacity ≤ self.old.sheet.room }
         requires may { let q = searching_of self.old.subject in
             (p : Point) → Arrives q path.now p → choices.now ≡ choices_at q.asked p }
         ensures edges { let q = searching_of self.old.subject in
@@ -127,8 +179,16 @@ impl Quest {
         ensures subject { self.new.subject ≡ self.old.subject }
     {
         let mut edges = Vec::new(self.alloc);
-        for choice in choices {
-            let edge = self.edge(path, *choice)?;
+        let Some(first) = choices.first() else {
+            run.close();
+            return Ok(edges);
+        };
+        let edge = self.edge_on(path, run, *first)?;
+        let Ok(()) = edges.push(edge) else {
+            return Err(no_memory());
+        };
+        for next in 1..choices.len() {
+            let edge = self.edge(path, choices[next])?;
             let Ok(()) = edges.push(edge) else {
                 return Err(no_memory());
             };
