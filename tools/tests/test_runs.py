@@ -195,6 +195,8 @@ class Pictures(Case):
 
 
 class Speed(Case):
+    is_alone = True
+
     def test_summary_of_a_million_lines(self):
         lines = []
         for at in range(0, 250_000):
@@ -209,7 +211,7 @@ class Speed(Case):
                 summed.feed(line)
         told = list(summed.report())
         self.assertIn("1,000,000 lines", told[0])
-        self.assertLess(time.process_time() - began, 10)
+        self.assertLess(time.process_time() - began, 30)  # of a processor, which others may share; it takes four
 
 
 class Listening(Case):
