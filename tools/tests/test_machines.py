@@ -36,6 +36,8 @@ def free_port():
 class Machines(Shaken):
     """A search in shares is started by somebody else, and its parts, joined, are the whole."""
 
+    is_alone = True
+
     def setUp(self):
         super().setUp()
         self.env = {**os.environ, "XOUSIM": str(STAND_IN), "HOME": str(self.folder / "home"), "LC_ALL": "C.UTF-8"}

@@ -248,6 +248,8 @@ def checks_of_calls(searcher):
 
 
 class Orders(Case):
+    takes_long = True
+
     def test_reading(self):
         self.hold(checks_of_reading())
 

@@ -136,6 +136,8 @@ class Script(Case):
 
 
 class Projects(Case):
+    takes_long = True
+
     def new(self, kind):
         made = self.tool("xous-new", self.folder / "mine", kind)
         self.assertEqual((made.returncode, made.stderr), (0, ""))

@@ -235,6 +235,8 @@ class Shipped(Case):
 class Played(Shaken):
     """Over the program."""
 
+    takes_long = True
+
     def setUp(self):
         super().setUp()
         self.program = need_program()
