@@ -124,6 +124,8 @@ def checks_of_tries(folder):
 
 
 class Edits(Case):
+    takes_long = True
+
     def test_functions(self):
         self.hold(checks_of_functions())
 
