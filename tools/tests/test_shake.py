@@ -18,7 +18,7 @@ from xous.shaking.playing import Player
 
 from .builders import image_of, process
 from .frame import EXAMPLES, ROOT, TOOLS, Case, heed_interrupts, need, need_program, need_searcher
-from .test_orders import FEW, given_of, stored
+from .test_orders import FEW, given_of, stored_plain
 
 STAND_IN = TOOLS / "tests" / "lost_machine.py"
 ORDERS = EXAMPLES / "orders"
@@ -253,7 +253,7 @@ class Played(Shaken):
 
     def test_seen_as_by_the_search(self):
         """What is seen by a transcript is what the search sees of the state, for each ending of the stored searches."""
-        for words, lines in stored():
+        for words, lines in stored_plain():
             image, given, options = given_of(self.program, words)
             if int(lines[0].split()[1]) > FEW or options[:1] == ["--kill"]:
                 continue
@@ -321,7 +321,7 @@ class Played(Shaken):
 
     def test_prefixes(self):
         """The endings behind the prefixes together are those of the whole search. What ended within a prefix is told as gone."""
-        for words, lines in stored():
+        for words, lines in stored_plain():
             image, given, options = given_of(self.program, words)
             whole = gone_of(read(lines))
             if int(lines[0].split()[1]) > FEW or "--kill" in options:
