@@ -4,6 +4,8 @@ import pathlib
 import re
 import subprocess
 import tempfile
+from types import SimpleNamespace
+from unittest import mock
 
 from xous.commands.test_orders import asked_of, parser, search, write_orders
 from xous.errors import Refusal
@@ -215,6 +217,68 @@ def checks_of_words():
     yield asked_of(parser().parse_args(["xousim", "--search", "image", "--one"])).differ, "--one"
 
 
+# A search of a toy: each of two threads of process 2 has one slice, in which it writes its letter; the process ends with the second, with
+# 121 if the letters aren't in order.
+
+LETTERS = {(2, 2): b"a", (2, 3): b"b"}
+
+
+class Toy(orders.Search):
+    def played(self, path, once=()):
+        return orders.Node(path, 0, b"", once, {})
+
+    def visited(self, node):
+        node.machine = SimpleNamespace(ready=lambda: [who for who in LETTERS if LETTERS[who] not in node.console], steps=0, claims=[])
+        return node
+
+    def slice_of(self, node, who):
+        console = node.console + LETTERS[who]
+        ended = b"" if len(console) < 2 else f"1 2.3 call 00000016 {0 if console == b'ab' else 121:08x}{' 00000000' * 6}\n1 2 gone\n".encode()
+        ends = self.ends_on(node.ends, [decode.record_of(line) for line in ended.decode().splitlines()])
+        return self.visited(orders.Node(node.path, node.slices + 1, console, node.once, ends))
+
+
+TOLD_OF_TOY = {
+    "": (0, 'states 5 slices 4 whole|ending 1: console "ab"; 2 exited 0; 1 node; 2 slices|ending 2: console "ba"; 2 exited 121; 1 node; 2 slices|2 endings'),
+    "--fails fault --fails exit": (1, "||||fails: exit in ending 2, 2 slices"),
+    "--fails fault --fails console=c": (0, "|||"),
+    "--one --fails console-not=ab": (1, "||||fails: console-not=ab in ending 2, 2 slices|fails: differ, 2 endings"),
+    "--see exits": (0, "|ending 1: 2 exited 0; 1 node; 2 slices|ending 2: 2 exited 121; 1 node; 2 slices|"),
+    "--see waits --one": (0, "|ending 1: 2 gone; 2 nodes; 2 slices|1 ending"),
+    "--see servers": (0, "|ending 1: 2 nodes; 2 slices|1 ending"),
+    "--see waits --fails console=ba": (1, "|ending 1: 2 gone; 1 node; 2 slices|ending 2: 2 gone; 1 node; 2 slices||fails: console=ba in ending 2, 2 slices"),
+    "--see console --hex": (0, "|ending 1: console 6162; 1 node; 2 slices|ending 2: console 6261; 1 node; 2 slices|"),
+    "--states 4": (0, "states 4 slices 4 cut||1 ending"),
+    "--states 4 --fails exit": (10, "states 4 slices 4 cut||1 ending"),
+    "--states 4 --fails console=b": (1, "states 4 slices 4 cut||1 ending|fails: console=b in ending 1, 2 slices"),
+    "--first --fails console=b": (1, "states 4 slices 4 cut||1 ending|fails: console=b in ending 1, 2 slices"),
+    "--first --fails console=c": (0, "|||"),
+}  # what is left out is as without words
+
+
+def key_of_toy(node, counts):
+    return node.console, counts
+
+
+def seen_of_toy(node):
+    return Seen(node.console, {2: None}, node.ends)
+
+
+def checks_of_toy():
+    usual = TOLD_OF_TOY[""][1].split("|")
+    with mock.patch.object(orders, "key_of", key_of_toy), mock.patch.object(orders, "seen", seen_of_toy):
+        for words, (status, told) in TOLD_OF_TOY.items():
+            asked = asked_of(parser().parse_args(f"xousim --search image {words}".split()))
+            searched = Toy("xousim", "image", asked, "folder").search().told()[0]
+            wanted = told.split("|")
+            if wanted[2:3] != ["1 ending"]:
+                wanted += usual[len(wanted) :]
+            wanted = [line or before for line, before in zip(wanted, [*usual, "", ""])]
+            lines = searched.lines()
+            yield (searched.status(asked.asks_for_failures()), lines) == (status, wanted), f"a toy searched {words}: {lines}"
+            yield found.read(lines) == searched, f"a toy searched {words}: its lines are read"
+
+
 # What a file of events plays.
 
 
@@ -377,6 +441,9 @@ class Orders(Case):
 
     def test_words(self):
         self.hold(checks_of_words())
+
+    def test_toy(self):
+        self.hold(checks_of_toy())
 
     def test_searches(self):
         self.hold(checks_of_search(need_program(), GIVEN.is_long))
