@@ -252,6 +252,26 @@ class Projects(Case):
         self.assertEqual(ran.returncode, 1, ran.stderr)
         self.run_commands(ran.stdout, self.folder)
 
+    def test_what_is_found_by_default(self):
+        """A failed check, a fault, a deadlock and a forgotten reply in some orders, each with its line, and what xous-why tells of it."""
+        need_program()
+        need_searcher()
+        for image, failing, why in (
+            ("orders/sum.image", "exit in ending 2, 6 slices", "2 sum: exited 121 (a check failed) at step "),
+            ("orders/late.image", "fault in ending 1, 3 slices", "2 late: fault 15 at 00000000 at step "),
+            ("orders/deadlock.image", "waits in ending 1, 15 slices", "cycle: left.2 -> right.2 -> left.2 (each waits for the next)\n"),
+            ("orders/desk.image", "waits in ending 1, 9 slices", "caller.2 -> message "),
+            ("lend/image", "", ""),
+        ):
+            with self.subTest(image):
+                ran = subprocess.run([SCRIPT, "orders", EXAMPLES / image, "orders"], cwd=self.folder, env=environment(), capture_output=True, text=True, check=False)
+                self.assertEqual((ran.returncode, ran.stderr), (1 if failing else 0, ""), ran.stdout)
+                self.assertEqual([line for line in ran.stdout.splitlines() if line.startswith("fails: ")], [f"fails: {failing}"] * bool(failing))
+                self.assertEqual("no order fails: 1 ending in all orders" in ran.stdout, not failing)
+                commands = [line.removeprefix("  why:      ") for line in ran.stdout.splitlines() if line.startswith("  why: ")]
+                told = [subprocess.run(["sh", "-c", line], cwd=self.folder, env=environment(), capture_output=True, text=True, check=False).stdout for line in commands]
+                self.assertEqual([why in text for text in told], [True] * bool(failing), told)
+
     def test_a_project_in_rust(self):
         """The kit builds std the first time, which takes three minutes of a processor."""
         need("make")
