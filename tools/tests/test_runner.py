@@ -42,7 +42,7 @@ class Runner(Case):
     def play(self, *words, **environment):
         """The status, what was written and what was said."""
         command = [KIT / "runner.py", self.program, *words]
-        ran = subprocess.run(command, env=self.environment(**environment), cwd=self.folder, capture_output=True, text=True, check=False, timeout=60)
+        ran = subprocess.run(command, env=self.environment(**environment), cwd=self.folder, capture_output=True, text=True, check=False, timeout=600)
         self.assertNotIn("Traceback", ran.stderr)
         return ran.returncode, ran.stdout, ran.stderr
 
@@ -138,7 +138,7 @@ class Runner(Case):
         ):
             with self.subTest(line):
                 words = ["/bin/bash", "-c", line.format(f"'{KIT}/runner.py' '{self.program}'")]
-                ran = subprocess.run(words, env=self.environment(), capture_output=True, text=True, check=False, timeout=60)
+                ran = subprocess.run(words, env=self.environment(), capture_output=True, text=True, check=False, timeout=600)
                 self.assertEqual((ran.returncode, ran.stderr), (status, text))
 
 

@@ -61,8 +61,8 @@ class Shaken(Case):
 
 
 def is_gone(group):
-    """Whether no process of a group is left, within some seconds."""
-    for _ in range(100):
+    """Whether no process of a group is left, within a minute."""
+    for _ in range(600):
         try:
             os.killpg(group, 0)
         except ProcessLookupError:
@@ -135,7 +135,7 @@ class StandIn(Shaken):
     def test_seconds(self):
         began = time.monotonic()
         self.tool("xous-shake", self.image, "--steps", "1000", "--seconds", "2", env={"XOUSIM": str(STAND_IN)})
-        self.assertLess(time.monotonic() - began, 30)
+        self.assertLess(time.monotonic() - began, 120)
 
     def test_interrupt(self):
         """Control-C prints what was found, and leaves whole files and no process."""
@@ -148,7 +148,7 @@ class StandIn(Shaken):
             time.sleep(2)
             os.killpg(started.pid, signal.SIGINT)
             told, said = started.stdout.read(), started.stderr.read()  # not by communicate, which misses what was read ahead
-            self.assertEqual((started.wait(60), said), (130, "xous-shake: interrupted\n"))
+            self.assertEqual((started.wait(300), said), (130, "xous-shake: interrupted\n"))
             self.assertTrue(is_gone(started.pid))
         told = first + told
         self.assertRegex(told.splitlines()[0], "^ending 1: ")

@@ -162,7 +162,7 @@ class Helps(Case):
                 for pattern in (rf"\b{tool.name}\b", r"^statuses:", r"^example:\n  \S"):
                     self.assertRegex(said[0].stdout, re.compile(pattern, re.M))
                 self.assertEqual(said[1].stdout, f"{tool.name} {version}\n")
-                how = {"cwd": self.folder, "stdin": subprocess.DEVNULL, "timeout": 60}
+                how = {"cwd": self.folder, "stdin": subprocess.DEVNULL, "timeout": 600}
                 if tool.name == "xous-try":  # its words are those of xousim
                     continue
                 other = subprocess.run([tool, "--odd"], capture_output=True, text=True, check=False, **how)
