@@ -229,4 +229,4 @@ class Listening(Case):
                 while told.count(b"#") < 1 or not told[told.find(b"#") :][2:]:
                     told += debugger.recv(4096)
                 self.assertRegex(told, rb"^\+\$[0-9a-f]{8}#[0-9a-f]{2}$")
-            self.assertEqual((started.wait(60), started.stderr.read()), (0, ""))
+            self.assertEqual((started.wait(300), started.stderr.read()), (0, ""))
