@@ -1,9 +1,11 @@
 # The search of a program's orders, for a Makefile that has included kit.mk and says IMAGE and PROGRAMS:
 #
-#     make orders    fails if orders of the threads end differently: by what is written, what processes end with, and who waits
+#     make orders    fails if an order of the threads does: a process ends by a fault or with an exit word other than 0, or a
+#                    thread waits for an answer or a thread for good
 #
-# It names the event files of the endings, and the commands that look into them. SEARCH has more words for the search (docs/orders.md),
-# such as `--quantum 1` for threads of one process that share memory. STEPS is the step limit of a run, if it isn't that of xousim.
+# It names the event files of these orders, and the commands that look into them. SEARCH has more words for the search
+# (docs/orders.md), such as `--quantum 1` for threads of one process that share memory, or `--fails differ` for one ending in all
+# orders. STEPS is the step limit of a run, if it isn't that of xousim.
 
 SEARCH ?=
 STEPS ?=

@@ -12,7 +12,7 @@ class Trial:
 
     def __init__(self, crate, path, all_functions):
         self.name = str(path.relative_to(crate.folder.parent))
-        self.function, self.symbols, self.verdict, self.why = None, set(), None, ""
+        self.function, self.symbols, self.verdict, self.why, self.keep = None, set(), None, "", None
         try:
             self.pairs = [*reading.pairs_of(path.read_text())]
             reading.texts_with(crate.folder, self.pairs)
@@ -23,6 +23,8 @@ class Trial:
 
     def end(self, verdict, why):
         self.verdict, self.why = verdict, why
+        if self.keep and verdict != UNSURE:  # which is tried again
+            self.keep(self)
 
 
 def trials_of(crate, folders, word):

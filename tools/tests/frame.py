@@ -117,6 +117,9 @@ def need_rust() -> None:
 class Case(unittest.TestCase):
     """Tests with a folder of their own, and checks that go on after one that fails."""
 
+    is_alone = False  # whether they need the machine to themselves, as their time or their ports are their own
+    takes_long = False  # whether they are begun before others
+
     def setUp(self) -> None:
         made = tempfile.TemporaryDirectory(prefix="xous-test-")
         self.addCleanup(made.cleanup)

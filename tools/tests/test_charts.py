@@ -4,7 +4,6 @@ import io
 import pathlib
 import random
 import re
-import shutil
 import subprocess
 import sys
 import tempfile
@@ -16,7 +15,8 @@ from xous.charts import chart, draw, page
 from xous.errors import Refusal
 from xous.transcripts import summary, view
 
-from .frame import EXAMPLES, OTHER_NAMES, ROOT, TOOLS, Case, need
+from . import browser
+from .frame import EXAMPLES, ROOT, TOOLS, Case, need
 
 PICTURE = ROOT / "docs" / "lend.svg"
 VIEW = TOOLS / "xous-view"
@@ -230,8 +230,8 @@ def checks_of_pictures(folder):
     yield PICTURE.exists() and path.read_text() == PICTURE.read_text(), f"docs/lend.svg: make it by {remake}"
 
 
-# What a reader does with the page, and what is then so; the last line of the page's title has it.
-DEEDS = """<script>
+# What a reader does with the page, and what is then so.
+DEEDS = """
 const facts = [], fact = (name, holds) => facts.push((holds ? "good " : "wrong ") + name);
 const id = name => document.getElementById(name), told = () => id("told").textContent;
 const key = (target, name) => target.dispatchEvent(new KeyboardEvent("keydown", { key: name, bubbles: true }));
@@ -279,68 +279,51 @@ try {
     id("view").scrollLeft = 300;
     fact("the steps stay", id("view").scrollLeft > 100 && Math.abs(id("steps").getBoundingClientRect().left - left) < 1);
 } catch (error) { facts.push("wrong " + error); }
-document.title = facts.join("; ");
-</script>"""
-
-
-def browser():
-    return next(path for name in OTHER_NAMES["chromium"] if (path := shutil.which(name)))
-
-
-def opened(program, path, *more):
-    with tempfile.TemporaryDirectory() as profile:
-        command = [program, "--headless", "--no-sandbox", "--disable-gpu", "--disable-dev-shm-usage", f"--user-data-dir={profile}"]
-        command += ["--window-size=1000,800", *more, "--dump-dom", path.as_uri()]
-        return subprocess.run(command, capture_output=True, text=True, check=False, timeout=600).stdout
+facts.join("; ")"""
 
 
 def checks_of_page(folder):
-    program = browser()
     path = pathlib.Path(folder, "lend.html")
     named = names.Names({2: "server", 3: "client"})
     made = page.html(example("lend/expected", named=named), named, "lend")
     links = re.findall(r"(?:src|href)=|url\(|@import", made)
     yield not links and "default-src 'none'" in made, f"a page has nothing from elsewhere: {links}"
-    path.write_text(made.replace("</body>", DEEDS + "</body>"))
-    told = re.search("<title>(.*?)</title>", opened(program, path))
-    facts = told[1].split("; ") if told else []
-    yield len(facts) == 19, f"what the page does: {facts}"
-    for fact in facts:
-        yield fact.startswith("good "), f"the page: {fact}"
-    yield from checks_of_dark(program, path, made)
+    path.write_text(made)
+    with browser.opened() as shown:
+        shown.open(path.as_uri())
+        facts = shown.value(DEEDS).split("; ")
+        yield len(facts) == 19, f"what the page does: {facts}"
+        for fact in facts:
+            yield fact.startswith("good "), f"the page: {fact}"
+        for scheme, wanted in (("light", "rgb(255, 255, 255); rgb(29, 39, 48)"), ("dark", "rgb(22, 27, 32); rgb(223, 230, 236)")):
+            shown.open(path.as_uri(), scheme)
+            told = shown.value(COLOURS)
+            yield told == wanted, f"{scheme} colours: {told}"
 
 
-DARK = """<script>
-document.title = [getComputedStyle(document.body).backgroundColor, getComputedStyle(document.querySelector("#chart .mark text")).fill].join("; ");
-</script>"""
+COLOURS = """
+[getComputedStyle(document.body).backgroundColor, getComputedStyle(document.querySelector("#chart .mark text")).fill].join("; ")"""
 
 
-def checks_of_dark(program, path, made):
-    path.write_text(made.replace("</body>", DARK + "</body>"))
-    for words, wanted in (((), "rgb(255, 255, 255); rgb(29, 39, 48)"), (("--blink-settings=preferredColorScheme=0",), "rgb(22, 27, 32); rgb(223, 230, 236)")):
-        told = re.search("<title>(.*?)</title>", opened(program, path, *words))
-        yield told and told[1] == wanted, f"colours with {words}: {told and told[1]}"
-
-
-def printed(program, path):
+def printed(path):
     """The texts of the pages that it has on paper."""
     target = path.with_suffix(".pdf")
     with tempfile.TemporaryDirectory() as profile:
-        command = [program, "--headless", "--no-sandbox", "--disable-gpu", "--disable-dev-shm-usage", f"--user-data-dir={profile}"]
-        subprocess.run([*command, f"--print-to-pdf={target}", path.as_uri()], capture_output=True, check=False, timeout=600)
+        command = [*browser.command(profile), f"--print-to-pdf={target}", path.as_uri()]
+        subprocess.run(command, capture_output=True, check=False, timeout=600)
     told = subprocess.run(["pdftotext", "-layout", target, "-"], capture_output=True, text=True, check=True).stdout
     return told.split("\f")[:-1]
 
 
-def checks_of_print(program, folder):
+def checks_of_print(folder):
     """On paper a short chart has one page, and a wide and long one as many as it needs, without an empty one."""
     path = pathlib.Path(folder, "printed.html")
     path.write_text(page.html(example("lend/expected"), names.Names(), "lend"))
-    yield len(printed(program, path)) == 1, "a short chart has one page"
+    yield len(printed(path)) == 1, "a short chart has one page"
     lines = [f"{at} {at % 12 + 2}.2 {what} {words(*given)}" for at in range(1, 601) for what, given in (("call", (42, at)), ("reply", (10, 2)))]
     named = names.Names({pid: f"process{pid}" for pid in range(2, 14)})
     path.write_text(page.html(drawn(lines, named=named), named, "many"))
-    pages = printed(program, path)
+    pages = printed(path)
     yield len(pages) > 1 and all(text.strip() for text in pages), f"no page of a long chart is empty: {len(pages)} pages"
     told = "\n".join(pages)
     yield all(re.search(rf"\bprocess{pid}\b", told) for pid in range(2, 14)), "each lane of a wide chart is on paper"
@@ -368,9 +351,9 @@ class Charts(Case):
         self.hold(checks_of_pictures(self.folder))
 
     def test_page(self):
-        need("chromium")
+        need("chromium", "bash")
         self.hold(checks_of_page(self.folder))
 
     def test_print(self):
         need("chromium", "pdftotext")
-        self.hold(checks_of_print(browser(), self.folder))
+        self.hold(checks_of_print(self.folder))

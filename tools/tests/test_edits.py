@@ -4,7 +4,7 @@ import pathlib
 import subprocess
 
 from edits import checks as crate_checks
-from edits import functions
+from edits import functions, keeping, trying
 
 from .frame import TOOLS, Case
 
@@ -113,17 +113,56 @@ def checks_of_plans(folder):
     yield planned.returncode == 0 and planned.stdout.startswith("tiny: 3 edits in 2 checks\n"), "tools/try-edits --plan"
 
 
+def tried(crate):
+    """The edits of the small crate, those of which a file knows the verdict ended."""
+    return trying.trials_of(crate, ["must-fail", "wrong-bodies"], "")
+
+
+def checks_of_kept(folder):
+    top, path = pathlib.Path(folder, "edited-checkout"), pathlib.Path(folder, "kept.tsv")
+    crate = crate_checks.Crate(top, "tiny", None)
+    trials = tried(crate)
+    yield keeping.Kept(path).take(crate, trials) == 0, "a new file knows no verdict"
+    for trial, verdict in zip(trials, (trying.REFUSED, trying.NOT_REFUSED, trying.UNSURE)):
+        trial.end(verdict, "tiny::f:\ta goal\n")
+    with path.open("a") as file:
+        file.write("tiny/wrong-bodies/unknown.edit\trefused")  # as a run that was stopped leaves it
+    again = tried(crate)
+    yield keeping.Kept(path).take(crate, again) == 2 and path.read_text().endswith("edit\trefused\n"), "verdicts that are kept"
+    yield [trial.verdict for trial in again] == [trying.REFUSED, trying.NOT_REFUSED, None], "no verdict is tried again"
+    yield again[0].why == "tiny::f: a goal", f"why: {again[0].why}"
+    source = crate.folder / "src/lib.rt"
+    text = source.read_text()
+    source.write_text(text + "// changed\n")
+    yield keeping.Kept(path).take(crate, tried(crate)) == 0, "a crate that has changed"
+    source.write_text(text)
+    (crate.folder.parent / again[0].name).write_text("file: src/lib.rt\nold: n + n\nnew: n - n\n")
+    yield keeping.Kept(path).take(crate, tried(crate)) == 1, "an edit that has changed"
+    write_small_crate(top)
+    try:
+        keeping.Kept(crate.folder / "src/lib.rt")
+        said = "taken"
+    except ValueError as error:
+        said = str(error)
+    yield "isn't a file of --keep" in said and source.read_text() == text, f"another file: {said}"
+
+
 def checks_of_tries(folder):
-    command = [TOOLS / "try-edits", "--root", pathlib.Path(folder, "edited-checkout")]
+    command = [TOOLS / "try-edits", "--root", pathlib.Path(folder, "edited-checkout"), "--keep", pathlib.Path(folder, "verdicts.tsv")]
     ran = subprocess.run(command, capture_output=True, text=True)
     told = ran.stdout.splitlines()
     good = len(told) == len(TOLD) + 1 and all(line.startswith(wanted) for line, wanted in zip(told, TOLD))
     yield ran.returncode == 1 and good, f"tools/try-edits over three edits: {ran.stdout + ran.stderr}"
+    again = subprocess.run(command, capture_output=True, text=True)
+    wanted = ran.stdout.replace("in 2 checks", "in 0 checks, 3 known before")
+    yield (again.returncode, again.stdout) == (1, wanted), f"a run with verdicts that are kept: {again.stdout + again.stderr}"
     unknown = subprocess.run([*command, "other"], capture_output=True, text=True)
     yield unknown.returncode == 2 and "other is no crate with edits" in unknown.stderr, "a crate without edits"
 
 
 class Edits(Case):
+    takes_long = True
+
     def test_functions(self):
         self.hold(checks_of_functions())
 
@@ -132,6 +171,7 @@ class Edits(Case):
 
     def test_tries(self):
         self.hold(checks_of_plans(self.folder))
+        self.hold(checks_of_kept(self.folder))
         if not crate_checks.kit():
             self.skipTest("the command rt is missing: the Rattle kit")
         self.hold(checks_of_tries(self.folder))

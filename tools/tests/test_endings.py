@@ -174,7 +174,7 @@ class Streams(Case):
             started.stdin.flush()
             started.stdout.readline()
             started.send_signal(signal.SIGINT)
-            started.wait(60)
+            started.wait(300)
             self.assertEqual((started.returncode, started.stderr.read()), (130, "xous-view: interrupted\n"))
 
     def test_file_too_large(self):

@@ -39,7 +39,7 @@ class Gate(Case):
         self.assertEqual(lines[0], "rt ci")
         self.assertRegex(lines[1], r"^== rt ci took \d+ seconds by the clock, and \S+ \S+ of \d+ processors$")
         self.assertEqual([line for line in lines if line.startswith("ran ")], ["ran examples/check 1 words", "ran tools/check-docs 0 words", "ran tools/test 2 words"])
-        self.assertEqual(lines[-2:], ["== left out: 2", "skipped 2: chromium missing (a, b)"])
+        self.assertEqual(lines[-3:], ["== left out: 2", "skipped 2: chromium missing (a, b)", lines[1]])
 
     def test_rt_fails(self):
         self.script("bin/rt", "exit 3")

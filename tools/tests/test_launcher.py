@@ -27,8 +27,8 @@ out/xousim"""
 STOPS = "echo 'rt: crates.txt names a missing crate'; mkdir -p out; : >out/xousim; chmod 755 out/xousim; exit 2"
 JUDGES_NOTHING = "echo 'rt: crates.txt names a missing crate'; exit 2"
 FAILS = "echo 'crate base: an open goal'; exit 1"
-SLOW = f"echo called >>\"$STANDIN/calls\"; sleep 1; {GOOD}"
-ENDLESS = "echo started >>\"$STANDIN/calls\"; exec sleep 60"
+SLOW = f"echo called >>\"$STANDIN/calls\"; until [ -e \"$STANDIN/go\" ]; do sleep 0.1; done; {GOOD}"
+ENDLESS = "echo started >>\"$STANDIN/calls\"; exec sleep 600"
 OTHER_PROGRAM = "mkdir -p out; printf '#!/bin/sh\\nexit 2\\n' >out/xousim; chmod 755 out/xousim; out/xousim; exit 2"
 
 
@@ -254,8 +254,9 @@ class Launcher(unittest.TestCase):
     # Several starts, and ends in the middle.
 
     def wait_for(self, name):
-        end = time.monotonic() + 20
-        while not (self.tree.commands / name).exists() and time.monotonic() < end:
+        end = time.monotonic() + 300
+        while not (self.tree.commands / name).exists():
+            self.assertLess(time.monotonic(), end, f"no file {name}")
             time.sleep(0.02)
 
     def test_two_starts_build_once(self):
@@ -263,9 +264,11 @@ class Launcher(unittest.TestCase):
         first = self.tree.begin("one")
         self.wait_for("calls")
         second = self.tree.begin("two")
-        told = [start.communicate(timeout=60) for start in (first, second)]
-        self.assertEqual([out for out, _ in told], ["played one\n", "played two\n"])
-        self.assertIn("another start is building; this one waits for its end", told[1][1])
+        with first, second:
+            said = second.stderr.readline()
+            (self.tree.commands / "go").touch()
+            self.assertIn("another start is building; this one waits for its end", said)
+            self.assertEqual([start.stdout.read() for start in (first, second)], ["played one\n", "played two\n"])
         self.assertEqual((self.tree.count("calls"), self.tree.left()), (1, []))
 
     def test_interrupt_leaves_no_log(self):
@@ -275,7 +278,7 @@ class Launcher(unittest.TestCase):
                 start = self.tree.begin("one", start_new_session=True, preexec_fn=heed_interrupts)
                 self.wait_for("calls")
                 os.killpg(start.pid, number)
-                start.communicate(timeout=60)
+                start.communicate(timeout=300)
                 self.assertNotEqual(start.returncode, 0)
                 self.assertEqual((self.tree.count("calls"), self.tree.left()), (1, []))
         self.tree.rt(GOOD)

@@ -27,7 +27,7 @@ class Lldb(Case):
             line = served.stderr.readline()
             self.assertIn("waits for a debugger; in gdb: target remote 127.0.0.1:", line)
             yield line.rsplit(":", 1)[1].strip()
-            self.assertEqual((served.wait(60), served.stderr.read()), (0, ""))
+            self.assertEqual((served.wait(300), served.stderr.read()), (0, ""))
 
     def lldb(self, *commands):
         """What LLDB writes for each of these commands."""

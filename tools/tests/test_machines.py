@@ -17,7 +17,7 @@ from .frame import ROOT, TOOLS, need
 from .test_shake import STAND_IN, Shaken
 
 SHARES = (1, 2, 3)
-SECONDS = 60  # until a daemon has to answer
+SECONDS = 180  # until a daemon has to answer
 PART = (ROOT / "docs" / "orders.md").read_text().split("## Many machines")[1]
 LINES = re.findall(r"^    (.*)$", re.sub(r"\\\n *", "", PART), re.M)  # those that go on are joined
 
@@ -35,6 +35,8 @@ def free_port():
 
 class Machines(Shaken):
     """A search in shares is started by somebody else, and its parts, joined, are the whole."""
+
+    is_alone = True
 
     def setUp(self):
         super().setUp()

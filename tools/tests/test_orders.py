@@ -4,12 +4,15 @@ import pathlib
 import re
 import subprocess
 import tempfile
+from types import SimpleNamespace
+from unittest import mock
 
 from xous.commands.test_orders import asked_of, parser, search, write_orders
+from xous.errors import Refusal
 from xous.machine import MOST_STEPS
-from xous.runs import events, found, orders
+from xous.runs import events, fails, found, orders
 from xous.runs.ended import EXITED, FAULT, KILLED, Ended
-from xous.runs.seen import Seen, Standing
+from xous.runs.seen import EXITS, WAITS, Seen, Standing
 from xous.states.state import JOINING, RECEIVING, WAITING
 from xous.transcripts import decode
 
@@ -29,35 +32,52 @@ def stored():
     return [(block[0], block[1:]) for block in lines if block]
 
 
+def stored_plain():
+    """Those that see all, and ask for no failures."""
+    return [(words, lines) for words, lines in stored() if not re.search(" --(?:see|hex|fails|one)", words)]
+
+
 # A search's lines, and some of other form: which line is exchanged for what.
 
 SAMPLE = """states 26 slices 38 whole
 ending 1: console "Ok\\n"; 2 waits: 2.2 receives at fill; 3 exited 0; 1 node; 12 slices
 ending 2: console "; 2 \\" gone"; 2 fault 15 at 60000000; 3 killed; 2 nodes; 1 slice
-2 endings"""
+ending 3: console "; 2 \\" gone"; 2 fault 15 at 60000000; 3 killed; 1 node; 4 slices
+3 endings
+fails: fault in ending 2, 1 slice
+fails: console=Ok in ending 3, 4 slices
+fails: differ, 3 endings"""
+CRASHED = 'console "; 2 \\" gone"; 2 fault 15 at 60000000; 3 killed'
 READ = found.Found(
     26,
     38,
     True,
     (
         found.Ending('console "Ok\\n"; 2 waits: 2.2 receives at fill; 3 exited 0', 1, 12),
-        found.Ending('console "; 2 \\" gone"; 2 fault 15 at 60000000; 3 killed', 2, 1),
+        found.Ending(CRASHED, 2, 1, "fault"),
+        found.Ending(CRASHED, 1, 4, "console=Ok"),
     ),
+    differ=True,
 )
 OTHER_FORMS = {
     "no word for how it ended": ("38 whole", "38"),
     "another word for how it ended": ("whole", "done"),
     "a number that is left out": ("states 26", "states"),
     "an ending of another number": ("ending 2:", "ending 3:"),
-    "an ending that is told twice": ('console "; 2 \\" gone"; 2 fault 15 at 60000000; 3 killed', 'console "Ok\\n"; 2 waits: 2.2 receives at fill; 3 exited 0'),
-    "another count of endings": ("2 endings", "3 endings"),
+    "an ending that is told twice": ("fails: console=Ok in", "fails: fault in"),
+    "another count of endings": ("\n3 endings", "\n2 endings"),
     "one of several": ("2 nodes", "2 node"),
-    "several of one": ("1 slice\n2", "1 slices\n2"),
+    "several of one": ("1 slice\nending 3", "1 slices\nending 3"),
     "no order": ("; 12 slices", ""),
-    "a console that is left out": ('console "Ok\\n"; ', ""),
+    "a text without its end": ('"Ok\\n";', '"Ok\\n;'),
+    "a console in other digits": ('"Ok\\n"', "4F6b0a"),
+    "an end that isn't one": ("3 exited 0", "3 exited"),
     "a bound without its steps": ("whole", "whole within"),
-    "a console in digits": ('"Ok\\n"', "4f6b0a"),
-    "a line behind the last one": ("2 endings", "2 endings\nfails"),
+    "a failure of no ending": ("in ending 3,", "in ending 4,"),
+    "failures in another order": ("fails: fault in ending 2, 1 slice\nfails: console=Ok in ending 3, 4 slices", "fails: fault in ending 3, 4 slices\nfails: exit in ending 2, 1 slice"),
+    "a failure with other slices": ("in ending 3, 4 slices", "in ending 3, 5 slices"),
+    "another count of those that differ": ("differ, 3 endings", "differ, 2 endings"),
+    "a failure behind the last one": ("differ, 3 endings", "differ, 3 endings\nfails: fault in ending 3, 4 slices"),
 }
 # What isn't the same, and in how many things it differs.
 OTHER_SEARCHES = {
@@ -65,10 +85,20 @@ OTHER_SEARCHES = {
     "a slice more": (("slices 38", "slices 39"), 1),
     "a search that was cut": (("whole", "cut"), 1),
     "a bound of steps": (("whole", "whole within 9 steps"), 1),
-    "another ending": (("Ok", "O"), 2),
-    "a node more of an ending": (("1 node;", "2 nodes;"), 1),
+    "another ending": (('"Ok', '"O'), 2),
+    "a node more of an ending": (("1 node; 12", "2 nodes; 12"), 1),
     "an order that isn't the shortest": (("12 slices", "13 slices"), 1),
-    "another cause of a fault": (("fault 15", "fault 13"), 2),
+    "another cause of a fault": (("; 2 fault 15 at 60000000; 3 killed; 2 nodes", "; 2 fault 13 at 60000000; 3 killed; 2 nodes"), 2),
+    "another failure": (("fails: fault", "fails: exit"), 2),
+    "a failure that isn't told": (("fails: fault in ending 2, 1 slice\n", ""), 2),
+    "endings that aren't told to differ": (("\nfails: differ, 3 endings", ""), 1),
+}
+# What is seen in other ways, and of it the console's bytes and who is gone.
+SIGHTS = {
+    "console 4f6b0a; 3 exited 0": (b"Ok\n", {3}),
+    "console empty": (b"", set()),
+    "2 gone; 3 waits: 3.2 receives, 3.4 waits, held": (None, {2}),
+    "": (None, set()),
 }
 
 
@@ -79,18 +109,29 @@ def is_read(text):
         return False
 
 
+# Searches that are whole or cut, whose endings differ or don't, and are asked for failures or not.
+WAYS = (True, False, True), (True, True, True), (False, False, False), (False, False, True), (False, True, True)
+
+
 def checks_of_reading():
     """Lines of searches are read as what they tell, and lines of other forms aren't."""
     one = found.read(SAMPLE.splitlines())
     yield one == READ, f"a search's lines are read: {one}"
-    yield [ending.console for ending in one.endings] == [b"Ok\n", b'; 2 " gone'], "the console of an ending"
-    yield [ending.gone for ending in one.endings] == [{3}, {2, 3}], "who is gone in an ending"
+    yield one.lines() == SAMPLE.splitlines(), f"a search's lines are spelled: {one.lines()}"
+    yield [ending.console for ending in one.endings] == [b"Ok\n", b'; 2 " gone', b'; 2 " gone'], "the console of an ending"
+    yield [ending.gone for ending in one.endings] == [{3}, {2, 3}, {2, 3}], "who is gone in an ending"
+    for text, wanted in SIGHTS.items():
+        line = f"ending 1: {text and f'{text}; '}1 node; 1 slice"
+        ending = found.read(["states 1 slices 0 whole", line, "1 ending"]).endings[0]
+        yield (ending.seen, ending.console, ending.gone) == (text, *wanted), f"an ending that is seen so: {text}"
+    statuses = [found.Found(1, 0, is_whole, (), None, differ).status(is_asked) for is_whole, differ, is_asked in WAYS]
+    yield statuses == [0, 1, 0, 10, 1], f"what searches end with: {statuses}"
     for name, (old, new) in OTHER_FORMS.items():
         yield SAMPLE.count(old) == 1 and not is_read(SAMPLE.replace(old, new)), f"a search's lines with {name}"
     for name, ((old, new), count) in OTHER_SEARCHES.items():
         told = list(found.differences(one, found.read(SAMPLE.replace(old, new).splitlines())))
         yield SAMPLE.count(old) == 1 and len(told) == count, f"a search with {name}: {told}"
-    turned = found.Found(26, 38, True, one.endings[::-1])
+    turned = found.Found(26, 38, True, one.endings[::-1], None, True)
     yield list(found.differences(one, turned)) == [], "the order in which endings are told doesn't matter"
     for words, lines in stored():
         yield found.read(lines).lines() == lines, f"the stored lines of {words}"
@@ -119,6 +160,123 @@ def checks_of_seen():
         "5 fault 15 at 60000000; 6 killed; 7 exited 121; 8 gone"
     )
     yield STOOD.text() == text, f"what is seen: {STOOD.text()}"
+    for sights, is_hex, text in (
+        (("console",), True, "console 746f74616c20330a"),
+        (("console", "exits", "servers"), False, 'console "total 3\\n"; 3 exited 0; 5 fault 15 at 60000000; 6 killed; 7 exited 121; 8 gone'),
+        (("waits",), False, "2 waits: 2.1 receives, 2.3 waits, held; 3 gone; 4 waits: 4.2 joins 4.3; 5 gone; 6 gone; 7 gone; 8 gone"),
+        (("servers",), False, ""),
+    ):
+        yield STOOD.text(sights, is_hex) == text, f"what is seen of {sights}: {STOOD.text(sights, is_hex)}"
+    yield Seen(b"", {}).text(("console",), True) == "console empty", "an empty console in digits"
+
+
+# What fails.
+
+FAILING = {
+    "exit": True, "fault": True, "waits": True, "waits=2": True, "waits=2.3": True, "waits=2.1": False, "waits=3": False, "waits=4": True,
+    "console=tal 3": True, "console=Total": False, "console-not=tal 3": False, "console-not=Total": True, "console==": False,
+}  # fmt: skip
+NO_FAILURES = (
+    "", "exits", "exit=1", "fault=", "waits=", "waits=1", "waits=66", "waits=02", "waits=2.", "waits=2.0", "waits=2.32", "waits=2.03",
+    "waits=2.3.4", "console", "console=", "console-not=", "console Ok", "limit", "none", "exit,fault",
+)  # fmt: skip
+
+
+def checks_of_failures():
+    for word, holds in FAILING.items():
+        failing = fails.failing_of(word)
+        yield failing.spelled() == word and failing.holds(STOOD) == holds, f"an ending fails of {word}: {holds}"
+    good = Seen(b"", {2: [Standing(2, 1, RECEIVING, server="a")], 3: None}, {3: Ended(EXITED, (0,))})
+    asked = [fails.failing_of(word) for word in ("fault", "exit", "waits")]
+    yield (fails.first_of(asked, STOOD), fails.first_of(asked, good)) == ("fault", ""), "the first of which an ending fails"
+    for word in NO_FAILURES:
+        try:
+            told = fails.failing_of(word).spelled()
+        except Refusal as refusal:
+            told = str(refusal.status)
+        yield told == "2", f"--fails {word!r}: {told}"
+
+
+def checks_of_words():
+    """The options of the slow search that are about what is seen and what fails."""
+    for words, text in (
+        (("--see", "exits,exits"), "exits,exits: say one or more of console,exits,waits,servers, each once"),
+        (("--see", "exits", "--see", "waits"), "--see is given more than once"),
+        (("--see", "waits", "--fails", "fault"), "--fails fault: exits aren't seen"),
+        (("--fails", "waits") * 256, "--fails is given 256 times; at most 255"),
+    ):
+        try:
+            asked_of(parser().parse_args(["xousim", "--search", "image", *words]))
+            told = "taken"
+        except Refusal as refusal:
+            told = f"{refusal.status}: {refusal}"
+        yield told.startswith("2: ") and text in told, f"{words[:4]}: {told}"
+    asked = asked_of(parser().parse_args("xousim --search image --see waits,exits --hex --fails waits=2.3 --fails differ --first".split()))
+    yield (asked.sights, asked.is_hex, asked.differ, asked.stops) == ((EXITS, WAITS), True, True, True), f"what is asked: {asked}"
+    yield [failing.spelled() for failing in asked.fails] == ["waits=2.3"], f"what fails: {asked.fails}"
+    yield asked_of(parser().parse_args(["xousim", "--search", "image", "--one"])).differ, "--one"
+
+
+# A search of a toy: each of two threads of process 2 has one slice, in which it writes its letter; the process ends with the second, with
+# 121 if the letters aren't in order.
+
+LETTERS = {(2, 2): b"a", (2, 3): b"b"}
+
+
+class Toy(orders.Search):
+    def played(self, path, once=()):
+        return orders.Node(path, 0, b"", once, {})
+
+    def visited(self, node):
+        node.machine = SimpleNamespace(ready=lambda: [who for who in LETTERS if LETTERS[who] not in node.console], steps=0, claims=[])
+        return node
+
+    def slice_of(self, node, who):
+        console = node.console + LETTERS[who]
+        ended = b"" if len(console) < 2 else f"1 2.3 call 00000016 {0 if console == b'ab' else 121:08x}{' 00000000' * 6}\n1 2 gone\n".encode()
+        ends = self.ends_on(node.ends, [decode.record_of(line) for line in ended.decode().splitlines()])
+        return self.visited(orders.Node(node.path, node.slices + 1, console, node.once, ends))
+
+
+TOLD_OF_TOY = {
+    "": (0, 'states 5 slices 4 whole|ending 1: console "ab"; 2 exited 0; 1 node; 2 slices|ending 2: console "ba"; 2 exited 121; 1 node; 2 slices|2 endings'),
+    "--fails fault --fails exit": (1, "||||fails: exit in ending 2, 2 slices"),
+    "--fails fault --fails console=c": (0, "|||"),
+    "--one --fails console-not=ab": (1, "||||fails: console-not=ab in ending 2, 2 slices|fails: differ, 2 endings"),
+    "--see exits": (0, "|ending 1: 2 exited 0; 1 node; 2 slices|ending 2: 2 exited 121; 1 node; 2 slices|"),
+    "--see waits --one": (0, "|ending 1: 2 gone; 2 nodes; 2 slices|1 ending"),
+    "--see servers": (0, "|ending 1: 2 nodes; 2 slices|1 ending"),
+    "--see waits --fails console=ba": (1, "|ending 1: 2 gone; 1 node; 2 slices|ending 2: 2 gone; 1 node; 2 slices||fails: console=ba in ending 2, 2 slices"),
+    "--see console --hex": (0, "|ending 1: console 6162; 1 node; 2 slices|ending 2: console 6261; 1 node; 2 slices|"),
+    "--states 4": (0, "states 4 slices 4 cut||1 ending"),
+    "--states 4 --fails exit": (10, "states 4 slices 4 cut||1 ending"),
+    "--states 4 --fails console=b": (1, "states 4 slices 4 cut||1 ending|fails: console=b in ending 1, 2 slices"),
+    "--first --fails console=b": (1, "states 4 slices 4 cut||1 ending|fails: console=b in ending 1, 2 slices"),
+    "--first --fails console=c": (0, "|||"),
+}  # what is left out is as without words
+
+
+def key_of_toy(node, counts):
+    return node.console, counts
+
+
+def seen_of_toy(node):
+    return Seen(node.console, {2: None}, node.ends)
+
+
+def checks_of_toy():
+    usual = TOLD_OF_TOY[""][1].split("|")
+    with mock.patch.object(orders, "key_of", key_of_toy), mock.patch.object(orders, "seen", seen_of_toy):
+        for words, (status, told) in TOLD_OF_TOY.items():
+            asked = asked_of(parser().parse_args(f"xousim --search image {words}".split()))
+            searched = Toy("xousim", "image", asked, "folder").search().told()[0]
+            wanted = told.split("|")
+            if wanted[2:3] != ["1 ending"]:
+                wanted += usual[len(wanted) :]
+            wanted = [line or before for line, before in zip(wanted, [*usual, "", ""])]
+            lines = searched.lines()
+            yield (searched.status(asked.asks_for_failures()), lines) == (status, wanted), f"a toy searched {words}: {lines}"
+            yield found.read(lines) == searched, f"a toy searched {words}: its lines are read"
 
 
 # What a file of events plays.
@@ -134,13 +292,18 @@ def seen_of_trace(program, image, path):
 
 
 def checks_of_played(program, image, asked, ending, path, name):
-    """An event file leads to what was seen of the ending, by the transcript and by the last state, and has its slices."""
-    yield seen_of_trace(program, image, path) == (ending.console, ending.gone), f"{name}: its transcript"
+    """An event file leads to what was seen of the ending, by the transcript and by the last state, fails as is told, and has its slices."""
+    console, gone = seen_of_trace(program, image, path)
+    if ending.console is not None:
+        yield console == ending.console, f"{name}: the console of its transcript"
+    if EXITS in asked.sights or WAITS in asked.sights:
+        yield gone == ending.gone, f"{name}: who is gone in its transcript"
     played, bad = events.read(path.read_bytes())
     with tempfile.TemporaryDirectory() as folder:
         again = orders.Search(program, str(image), asked, folder)
-        seen = orders.seen(again.visited(again.played(played))).text()
-    yield bad is None and seen == ending.seen, f"{name}: its last state is {seen}"
+        node = again.visited(again.played(played))
+        seen, failing = orders.seen(node).text(asked.sights, asked.is_hex), again.failing(node)
+    yield bad is None and (seen, failing) == ending.key, f"{name}: its last state is {seen}, {failing or 'without failure'}"
 
 
 def checks_of_orders(program, image, asked, told, folder, words):
@@ -183,7 +346,7 @@ def checks_of_searcher(program, searcher):
         with tempfile.TemporaryDirectory() as folder:
             command = [searcher, str(image), *options, "--write", folder]
             ran = subprocess.run(command, capture_output=True, text=True, check=False)
-            if ran.returncode != 0 or not is_read(ran.stdout):
+            if ran.returncode != wanted.status(asked_of(given).asks_for_failures()) or not is_read(ran.stdout):
                 yield False, f"xousorders {words}: status {ran.returncode}: {ran.stdout[-200:]}{ran.stderr}"
                 continue
             told = found.read(ran.stdout.splitlines())
@@ -206,6 +369,18 @@ CALLS = (
     (f"{LOST} --states", 2, "", "usage: "),
     (f"{LOST} {LOST}", 2, "", "usage: "),
     (f"{LOST} --write=", 2, "", "usage: "),
+    (f"{LOST} --see", 2, "", "usage: "),
+    (f"{LOST} --see exits,", 2, "", "usage: "),
+    (f"{LOST} --see exits,exits", 2, "", "usage: "),
+    (f"{LOST} --see numbers", 2, "", "usage: "),
+    (f"{LOST} --see exits --see waits", 2, "", "usage: "),
+    (f"{LOST} --fails", 2, "", "usage: "),
+    (f"{LOST} --fails exits", 2, "", "usage: "),
+    (f"{LOST} --fails waits=1", 2, "", "usage: "),
+    (f"{LOST} --fails waits=2.32", 2, "", "usage: "),
+    (f"{LOST} --fails waits=02", 2, "", "usage: "),
+    (f"{LOST} --fails console=", 2, "", "usage: "),
+    (f"{LOST} --see waits --fails exit", 2, "", "usage: "),
     ("none.image", 3, "", "read fault"),
     (f"{LOST} --from none.events", 3, "", "read fault"),
     ("bad.events", 5, "", "image fault"),
@@ -214,7 +389,12 @@ CALLS = (
     (f"{LOST} --write none", 4, "", "write fault"),
     (LOST, 0, r"states 11 slices 11 whole", ""),
     (f"{LOST} --one", 0, r"states 11 slices 11 whole", ""),
+    (f"{LOST} --fails differ --hex", 0, r"states 11 slices 11 whole", ""),
     (f"{LOST} --quantum 1 --one", 1, r"states 486 slices 770 whole", ""),
+    (f"{LOST} --quantum 1 --fails exit --fails fault --fails waits", 0, r"states 486 slices 770 whole", ""),
+    (f"{LOST} --fails console=3", 1, r"states 11 slices 11 whole", ""),
+    (f"{LOST} --states 5 --fails exit", 10, r"states 5 slices \d+ cut", "cut"),
+    (f"{LOST} --states 5 --one", 10, r"states 5 slices \d+ cut", "cut"),
     (f"{LOST} --from empty.events", 0, r"states 11 slices 11 whole", ""),
     (f"{LOST} --from good.events", 0, r"states \d+ slices \d+ whole", ""),
     (f"{LOST} --states 1", 0, r"states 1 slices 0 cut", ""),
@@ -248,11 +428,22 @@ def checks_of_calls(searcher):
 
 
 class Orders(Case):
+    takes_long = True
+
     def test_reading(self):
         self.hold(checks_of_reading())
 
     def test_seen(self):
         self.hold(checks_of_seen())
+
+    def test_failures(self):
+        self.hold(checks_of_failures())
+
+    def test_words(self):
+        self.hold(checks_of_words())
+
+    def test_toy(self):
+        self.hold(checks_of_toy())
 
     def test_searches(self):
         self.hold(checks_of_search(need_program(), GIVEN.is_long))

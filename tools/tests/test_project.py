@@ -18,15 +18,16 @@ for ending in ENDINGS; do
     echo "ending $ending: console \\"$ending\\"; 1 node; 2 slices"
     echo 'tick 20000' >"$2/ending-$ending.events"
 done
-echo 'COUNT'
+printf 'COUNTFAILS'
 exit STATUS
 """
 
 
-def search(whole="whole", endings="1", status=0):
+def search(whole="whole", endings="1", status=0, fails=()):
     """The text of a stand-in for xousorders."""
     count = len(endings.split())
-    values = {"WHOLE": whole, "ENDINGS": endings, "STATUS": str(status), "COUNT": f"{count} ending{'s' * (count != 1)}"}
+    values = {"WHOLE": whole, "ENDINGS": endings, "STATUS": str(status), "COUNT": f"{count} ending{'s' * (count != 1)}\\n"}
+    values["FAILS"] = "".join(f"fails: {line}\\n" for line in fails)
     text = SEARCH
     for name, value in values.items():
         text = text.replace(name, value)
@@ -93,21 +94,35 @@ class Script(Case):
     def test_one_ending(self):
         for whole in ("whole", "whole within 100000 steps"):
             self.search(whole=whole)
-            wanted = (0, f"mine.img: 1 ending in all orders (states 4 slices 6 {whole})\n")
+            wanted = (0, f"mine.img: no order fails: 1 ending in all orders (states 4 slices 6 {whole})\n")
             self.assertEqual(self.start("orders", "mine.img", "orders", "--quantum", "1"), wanted)
-            self.assertEqual((self.folder / "searched").read_text(), "mine.img --one --write orders --quantum 1\n")
+            words = "mine.img --write orders --fails exit --fails fault --fails waits --quantum 1\n"
+            self.assertEqual((self.folder / "searched").read_text(), words)
 
-    def test_two_endings(self):
-        self.search(endings="1 2", status=1)
-        status, said = self.start("orders", "mine.img", "orders")
-        self.assertEqual(status, 1)
-        self.assertIn("mine.img: its orders have more than one ending\n", said)
-        self.holds_commands(said, "orders/ending-1.events")
-        self.holds_commands(said, "orders/ending-2.events")
+    def test_what_fails_is_asked_for(self):
+        self.search()
+        for words in ("--one", "--fails console=Ok --quantum 1", "--quantum 1 --fails waits=2.3"):
+            self.assertEqual(self.start("orders", "mine.img", "orders", *words.split())[0], 0)
+            self.assertEqual((self.folder / "searched").read_text(), f"mine.img --write orders {words}\n")
+
+    def test_orders_that_fail(self):
+        """The commands are those of the endings that fail; of all, if endings differ alone."""
+        named = ["exit in ending 1, 3 slices", "console= in ending 2, x in ending 3, 1 slice"], [1, 3]
+        for fails, endings in (named, (["waits=2.3 in ending 2, 4 slices", "differ, 3 endings"], [2]), (["differ, 3 endings"], [1, 2, 3])):
+            self.search(endings="1 2 3", status=1, fails=fails)
+            status, said = self.start("orders", "mine.img", "orders")
+            self.assertEqual(status, 1)
+            self.assertIn("mine.img: some orders fail\n", said)
+            for line in fails:
+                self.assertIn(f"fails: {line}\n", said)
+            events = [line for line in said.splitlines() if line.startswith("event file: ")]
+            self.assertEqual(events, [f"event file: orders/ending-{number}.events" for number in endings])
+            for number in endings:
+                self.holds_commands(said, f"orders/ending-{number}.events")
 
     def test_a_search_that_was_cut(self):
         for whole in ("cut", "cut within 100000 steps"):
-            self.search(whole=whole)
+            self.search(whole=whole, status=10)
             status, said = self.start("orders", "mine.img", "orders")
             self.assertEqual(status, 2)
             self.assertIn("--states 1000000", said)
@@ -136,6 +151,8 @@ class Script(Case):
 
 
 class Projects(Case):
+    takes_long = True
+
     def new(self, kind):
         made = self.tool("xous-new", self.folder / "mine", kind)
         self.assertEqual((made.returncode, made.stderr), (0, ""))
@@ -199,10 +216,10 @@ class Projects(Case):
         made, searcher = self.folder / "mine", self.folder / "search"
         self.assertEqual(self.tool("xous-new", made).returncode, 0)
         for endings, status in (("1", 0), ("1 2", 1)):
-            searcher.write_text(search(endings=endings, status=status))
+            searcher.write_text(search(endings=endings, status=status, fails=["exit in ending 2, 2 slices"] * status))
             searcher.chmod(0o755)
             ended, said = self.make(made, f"XOUSORDERS={searcher}", "SEARCH=--quantum 1", "orders")
-            self.assertEqual((ended, "1 ending in all orders" in said), (2 * status, status == 0), said)
+            self.assertEqual((ended, "no order fails: 1 ending in all orders" in said), (2 * status, status == 0), said)
             self.assertEqual("/xous-why mine.img out/orders/ending-2.events --elf 2=out/mine.elf\n" in said, status == 1, said)
             self.assertIn(" --quantum 1\n", (made / "searched").read_text())
 
@@ -226,14 +243,34 @@ class Projects(Case):
         self.assertIn("event file: events\n", said)
 
     def test_the_commands_that_are_named(self):
-        """A lost sum: the commands of the last ending."""
+        """A sum that is lost, and another number on the console: the commands of the last ending."""
         need("gdb-multiarch")
         need_program()
         need_searcher()
-        words = [SCRIPT, "orders", EXAMPLES / "orders" / "lost.image", "orders", "--quantum", "1"]
+        words = [SCRIPT, "orders", EXAMPLES / "orders" / "lost.image", "orders", "--quantum", "1", "--fails", "console-not=3"]
         ran = subprocess.run(words, cwd=self.folder, env=environment(), capture_output=True, text=True, check=False)
         self.assertEqual(ran.returncode, 1, ran.stderr)
         self.run_commands(ran.stdout, self.folder)
+
+    def test_what_is_found_by_default(self):
+        """A failed check, a fault, a deadlock and a forgotten reply in some orders, each with its line, and what xous-why tells of it."""
+        need_program()
+        need_searcher()
+        for image, failing, why in (
+            ("orders/sum.image", "exit in ending 2, 6 slices", "2 sum: exited 121 (a check failed) at step "),
+            ("orders/late.image", "fault in ending 1, 3 slices", "2 late: fault 15 at 00000000 at step "),
+            ("orders/deadlock.image", "waits in ending 1, 15 slices", "cycle: left.2 -> right.2 -> left.2 (each waits for the next)\n"),
+            ("orders/desk.image", "waits in ending 1, 9 slices", "caller.2 -> message "),
+            ("lend/image", "", ""),
+        ):
+            with self.subTest(image):
+                ran = subprocess.run([SCRIPT, "orders", EXAMPLES / image, "orders"], cwd=self.folder, env=environment(), capture_output=True, text=True, check=False)
+                self.assertEqual((ran.returncode, ran.stderr), (1 if failing else 0, ""), ran.stdout)
+                self.assertEqual([line for line in ran.stdout.splitlines() if line.startswith("fails: ")], [f"fails: {failing}"] * bool(failing))
+                self.assertEqual("no order fails: 1 ending in all orders" in ran.stdout, not failing)
+                commands = [line.removeprefix("  why:      ") for line in ran.stdout.splitlines() if line.startswith("  why: ")]
+                told = [subprocess.run(["sh", "-c", line], cwd=self.folder, env=environment(), capture_output=True, text=True, check=False).stdout for line in commands]
+                self.assertEqual([why in text for text in told], [True] * bool(failing), told)
 
     def test_a_project_in_rust(self):
         """The kit builds std the first time, which takes three minutes of a processor."""
@@ -251,14 +288,14 @@ class Projects(Case):
         status, said = self.make(made, "test")
         self.assertEqual(status, 0, said)
         self.assertIn("target/xous/mine.img: the transcript of target/xous/mine.events is as stored\n", said)
-        self.assertIn("target/xous/mine.img: 1 ending in all orders", said)
+        self.assertIn("target/xous/mine.img: no order fails: 1 ending in all orders", said)
         self.check_failures_in_rust(made)
 
     def check_failures_in_rust(self, made):
-        """A unit test, the transcript, and the orders: each that fails names its event file, and the commands. Two endings are
-        those of a stand-in, since a search with a second thread of std takes minutes."""
-        source, searcher = made / "src" / "main.rs", self.folder / "two-endings"
-        searcher.write_text(search(endings="1 2", status=1))
+        """A unit test, the transcript, and the orders: each that fails names its event file, and the commands. An order that fails is
+        that of a stand-in, since a search with a second thread of std takes minutes."""
+        source, searcher = made / "src" / "main.rs", self.folder / "failing"
+        searcher.write_text(search(endings="1 2", status=1, fails=["waits in ending 1, 2 slices"]))
         searcher.chmod(0o755)
         for target, old, new, events in (
             ("test-units", "42);", "41);", r".*/target/xous/mine-[0-9a-f]+\.tests\.the_answer\.1\.events"),

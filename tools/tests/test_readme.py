@@ -28,6 +28,8 @@ def run(words, folder, env=None):
 
 
 class Readme(unittest.TestCase):
+    takes_long = True
+
     def setUp(self):
         folder = tempfile.TemporaryDirectory(prefix="xous-test-readme-")
         self.addCleanup(folder.cleanup)

@@ -161,6 +161,8 @@ class Gates(unittest.TestCase):
 class Releases(unittest.TestCase):
     """A release of a tree with all files of this one, except the sources."""
 
+    takes_long = True
+
     @classmethod
     def setUpClass(cls):
         cls.release = released()

@@ -42,7 +42,7 @@ class Runner(Case):
     def play(self, *words, **environment):
         """The status, what was written and what was said."""
         command = [KIT / "runner.py", self.program, *words]
-        ran = subprocess.run(command, env=self.environment(**environment), cwd=self.folder, capture_output=True, text=True, check=False, timeout=60)
+        ran = subprocess.run(command, env=self.environment(**environment), cwd=self.folder, capture_output=True, text=True, check=False, timeout=600)
         self.assertNotIn("Traceback", ran.stderr)
         return ran.returncode, ran.stdout, ran.stderr
 
@@ -68,15 +68,18 @@ class Runner(Case):
                 self.assertTrue("here: " not in sentence and "what: " not in sentence or where in told, told)
 
     def test_search(self):
-        """`cargo orders`: the words are those of xousorders, and more than one ending names what looks into it."""
+        """`cargo orders`: the words are those of xousorders, and an order that fails names what looks into it."""
         self.stand_in("")
-        script = '#!/bin/sh\necho "$*" >searched\ntouch target/xous/orders/ending-1.events\necho states 1 slices 0 whole\necho 1 ending\nexit '
-        for status, text in ((0, "mine.img: 1 ending in all orders (states 1 slices 0 whole)\n"), (1, "/xous-why target/xous/mine.img target/xous/orders/ending-1.events")):
-            searcher = self.write("xousorders", f"{script}{status}\n", True)
+        script = '#!/bin/sh\necho "$*" >searched\ntouch target/xous/orders/ending-1.events\necho states 1 slices 0 whole\necho 1 ending\n'
+        for status, more, text in (
+            (0, "", "mine.img: no order fails: 1 ending in all orders (states 1 slices 0 whole)\n"),
+            (1, "echo fails: exit in ending 1, 1 slice\n", "/xous-why target/xous/mine.img target/xous/orders/ending-1.events"),
+        ):
+            searcher = self.write("xousorders", f"{script}{more}exit {status}\n", True)
             ended, out, said = self.play("--quantum", "1", XOUS_SEARCH="1", XOUSORDERS=str(searcher))
             self.assertEqual((ended, said), (status, ""))
             self.assertIn(text, out)
-            words = "target/xous/mine.img --one --write target/xous/orders --quantum 1\n"
+            words = "target/xous/mine.img --write target/xous/orders --fails exit --fails fault --fails waits --quantum 1\n"
             self.assertEqual((self.folder / "searched").read_text(), words)
 
     def test_settings_that_make_no_sense(self):
@@ -135,7 +138,7 @@ class Runner(Case):
         ):
             with self.subTest(line):
                 words = ["/bin/bash", "-c", line.format(f"'{KIT}/runner.py' '{self.program}'")]
-                ran = subprocess.run(words, env=self.environment(), capture_output=True, text=True, check=False, timeout=60)
+                ran = subprocess.run(words, env=self.environment(), capture_output=True, text=True, check=False, timeout=600)
                 self.assertEqual((ran.returncode, ran.stderr), (status, text))
 
 

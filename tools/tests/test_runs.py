@@ -195,6 +195,8 @@ class Pictures(Case):
 
 
 class Speed(Case):
+    is_alone = True
+
     def test_summary_of_a_million_lines(self):
         lines = []
         for at in range(0, 250_000):
@@ -209,7 +211,7 @@ class Speed(Case):
                 summed.feed(line)
         told = list(summed.report())
         self.assertIn("1,000,000 lines", told[0])
-        self.assertLess(time.process_time() - began, 10)
+        self.assertLess(time.process_time() - began, 30)  # of a processor, which others may share; it takes four
 
 
 class Listening(Case):
@@ -227,4 +229,4 @@ class Listening(Case):
                 while told.count(b"#") < 1 or not told[told.find(b"#") :][2:]:
                     told += debugger.recv(4096)
                 self.assertRegex(told, rb"^\+\$[0-9a-f]{8}#[0-9a-f]{2}$")
-            self.assertEqual((started.wait(60), started.stderr.read()), (0, ""))
+            self.assertEqual((started.wait(300), started.stderr.read()), (0, ""))

@@ -18,7 +18,7 @@ from xous.shaking.playing import Player
 
 from .builders import image_of, process
 from .frame import EXAMPLES, ROOT, TOOLS, Case, heed_interrupts, need, need_program, need_searcher
-from .test_orders import FEW, given_of, stored
+from .test_orders import FEW, given_of, stored_plain
 
 STAND_IN = TOOLS / "tests" / "lost_machine.py"
 ORDERS = EXAMPLES / "orders"
@@ -61,8 +61,8 @@ class Shaken(Case):
 
 
 def is_gone(group):
-    """Whether no process of a group is left, within some seconds."""
-    for _ in range(100):
+    """Whether no process of a group is left, within a minute."""
+    for _ in range(600):
         try:
             os.killpg(group, 0)
         except ProcessLookupError:
@@ -135,7 +135,7 @@ class StandIn(Shaken):
     def test_seconds(self):
         began = time.monotonic()
         self.tool("xous-shake", self.image, "--steps", "1000", "--seconds", "2", env={"XOUSIM": str(STAND_IN)})
-        self.assertLess(time.monotonic() - began, 30)
+        self.assertLess(time.monotonic() - began, 120)
 
     def test_interrupt(self):
         """Control-C prints what was found, and leaves whole files and no process."""
@@ -148,7 +148,7 @@ class StandIn(Shaken):
             time.sleep(2)
             os.killpg(started.pid, signal.SIGINT)
             told, said = started.stdout.read(), started.stderr.read()  # not by communicate, which misses what was read ahead
-            self.assertEqual((started.wait(60), said), (130, "xous-shake: interrupted\n"))
+            self.assertEqual((started.wait(300), said), (130, "xous-shake: interrupted\n"))
             self.assertTrue(is_gone(started.pid))
         told = first + told
         self.assertRegex(told.splitlines()[0], "^ending 1: ")
@@ -235,6 +235,8 @@ class Shipped(Case):
 class Played(Shaken):
     """Over the program."""
 
+    takes_long = True
+
     def setUp(self):
         super().setUp()
         self.program = need_program()
@@ -251,7 +253,7 @@ class Played(Shaken):
 
     def test_seen_as_by_the_search(self):
         """What is seen by a transcript is what the search sees of the state, for each ending of the stored searches."""
-        for words, lines in stored():
+        for words, lines in stored_plain():
             image, given, options = given_of(self.program, words)
             if int(lines[0].split()[1]) > FEW or options[:1] == ["--kill"]:
                 continue
@@ -319,7 +321,7 @@ class Played(Shaken):
 
     def test_prefixes(self):
         """The endings behind the prefixes together are those of the whole search. What ended within a prefix is told as gone."""
-        for words, lines in stored():
+        for words, lines in stored_plain():
             image, given, options = given_of(self.program, words)
             whole = gone_of(read(lines))
             if int(lines[0].split()[1]) > FEW or "--kill" in options:

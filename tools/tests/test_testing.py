@@ -38,6 +38,40 @@ class Apart(unittest.TestCase):
     def test_one(self):
         pass
 """
+# Tests of which one waits for another, one ends its process, and one runs when no other does.
+APART = """import os
+import pathlib
+import time
+import unittest
+
+NOTES = pathlib.Path(os.environ["NOTES"])
+
+
+class Waits(unittest.TestCase):
+    def test_a(self):
+        for _ in range(6000):
+            if (NOTES / "b").exists():
+                (NOTES / "a").touch()
+                return
+            time.sleep(0.01)
+        self.fail("the test beside it didn't run")
+
+    def test_b(self):
+        (NOTES / "b").touch()
+
+
+class Apart(unittest.TestCase):
+    is_alone = True
+
+    def test_apart(self):
+        self.assertTrue((NOTES / "a").exists())
+
+
+class Late(unittest.TestCase):
+    def test_ends(self):
+        if os.environ.get("LOST"):
+            os._exit(9)
+"""
 # Runs tools/test over that folder in place of tools/tests.
 START = f"""import pathlib, sys
 sys.path[:0] = [{str(TOOLS)!r}]
@@ -56,6 +90,7 @@ class Frame(Case):
         (folder / "__init__.py").write_text("")
         (folder / "frame.py").write_text((TOOLS / "tests" / "frame.py").read_text())
         (folder / "test_some.py").write_text(SUITE)
+        self.tests = folder
 
     def start(self, *words, **environment):
         usual = {name: value for name, value in os.environ.items() if name != "XOUS_TESTS"}
@@ -85,6 +120,33 @@ class Frame(Case):
         status, lines, _ = self.start("-k", "test_first", XOUS_TESTS="all")
         self.assertEqual((status, lines[-1]), (1, "1 tests: 0 failed, 1 skipped, which fails by XOUS_TESTS=all"))
 
+    def test_side_by_side(self):
+        """What is told is in the order of the tests, however many run at a time; those that are to be alone come last."""
+        told = [self.start("-v", "-j", number)[1] for number in ("1", "3")]
+        plain = [[line for line in lines if not line.startswith(("    ", "Ran "))] for lines in told]
+        self.assertEqual(plain[0], plain[1])
+        (self.tests / "test_some.py").write_text(APART)
+        for number in ("2", "3"):
+            notes = self.folder / f"notes-{number}"
+            notes.mkdir()
+            status, lines, said = self.start("-v", XOUS_TEST_JOBS=number, NOTES=str(notes))
+            self.assertEqual((status, lines[-1]), (0, "4 tests: 0 failed, 0 skipped"), said)
+            ran = [line.split(" ")[0] for line in lines if line.startswith("test_")]
+            self.assertEqual(ran, ["test_ends", "test_a", "test_b", "test_apart"])
+
+    def test_a_process_that_ends(self):
+        (self.tests / "test_some.py").write_text(APART)
+        status, lines, said = self.start("-j", "3", NOTES=str(self.folder), LOST="1")
+        self.assertEqual(status, 1, said)
+        self.assertIn("ERROR: tests.test_some.Late.test_ends", lines)
+        self.assertRegex(lines[-1], "^4 tests: [1-4] failed, 0 skipped$")
+
+    def test_number_of_jobs(self):
+        for words, environment in ((("-j", "0"), {}), (("-j", "few"), {}), ((), {"XOUS_TEST_JOBS": "x"})):
+            status, lines, said = self.start(*words, **environment)
+            self.assertEqual((status, lines, said.count("\n")), (2, [], 1))
+            self.assertIn("no number of tests at a time; give a number, 1 to 1024", said)
+
 
 class Helps(Case):
     def test_every_tool(self):
@@ -100,7 +162,7 @@ class Helps(Case):
                 for pattern in (rf"\b{tool.name}\b", r"^statuses:", r"^example:\n  \S"):
                     self.assertRegex(said[0].stdout, re.compile(pattern, re.M))
                 self.assertEqual(said[1].stdout, f"{tool.name} {version}\n")
-                how = {"cwd": self.folder, "stdin": subprocess.DEVNULL, "timeout": 60}
+                how = {"cwd": self.folder, "stdin": subprocess.DEVNULL, "timeout": 600}
                 if tool.name == "xous-try":  # its words are those of xousim
                     continue
                 other = subprocess.run([tool, "--odd"], capture_output=True, text=True, check=False, **how)

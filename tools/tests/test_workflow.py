@@ -59,6 +59,8 @@ class Service:
 
 
 class Workflow(Case):
+    takes_long = True
+
     def setUp(self):
         super().setUp()
         need("git", "make", "curl", "elftools", "yaml")

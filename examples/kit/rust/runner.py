@@ -6,7 +6,7 @@
 The image has the servers that the package names and then the program. What these write to the console is written as
 it comes, and the exit word of the program is the status: 101 of a panic. Image and events stay in target/xous.
 XOUSIM names the program that plays; with XOUS_ORDERS=N each test is played under N orders of short turns. With XOUS_SEARCH=1 the
-orders of the threads are searched by xousorders, whose words the WORDs are (`cargo orders`); there has to be one ending.
+orders of the threads are searched by xousorders, whose words the WORDs are (`cargo orders`); none may fail.
 """
 
 import json

@@ -15,8 +15,8 @@ USAGE = "xous-new FOLDER [--c | --rust]"
 DESCRIPTION = """Makes a folder with a program of your own: its source, a Makefile and a file of events.
 
 The program is named after the folder, which may lie anywhere and must not be there yet, or be empty. The Makefile names the
-folder that has the kit by its variable XOUS_CHECKOUT. `make orders` searches the orders of the threads: it fails if they
-end differently, and names the event file of each ending and the commands that look into that run.
+folder that has the kit by its variable XOUS_CHECKOUT. `make orders` searches the orders of the threads: it fails if a process
+ends with an error or a thread waits for good. It names the event file of each such order, and the commands that look into it.
 
 With --c or --rust it is a project with tests, in C or over Rust's std. `make expected` stores the transcript. `make test`
 compares each later run with it, and searches the orders. A file for GitHub has these tests run on each push."""

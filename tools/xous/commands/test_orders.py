@@ -7,22 +7,38 @@ import os
 import pathlib
 import tempfile
 
-from ..command import Parser, decimal
+from ..command import USAGE as USAGE_STATUS
+from ..command import Parser, decimal, say
 from ..errors import Refusal
 from ..files import MOST_EVENT_BYTES, read_file
-from ..runs import events, orders
-from ..runs.found import Found
+from ..runs import events, fails, orders, seen
+from ..runs.found import CUT, Found
 from . import test
 
 USAGE = """test-orders XOUSIM --search IMAGE [--quantum N] [--steps N] [--states N] [--from EVENTS] [--irq K].. [--kill PID].. [--write DIR]
+                   [--see WHAT,..] [--hex] [--fails WHAT].. [--first] [--one]
        test-orders [XOUSIM [XOUSORDERS]] [--long]"""
 DESCRIPTION = """Searches every order of an image's threads, slowly, over runs of xousim, and prints what xousorders prints (docs/orders.md).
 
 Without --search it runs the tests of such searches (tools/test -k test_orders), with --long those of many states too."""
+STATUSES = """statuses:
+  0   done; if it is asked for failures, no order fails
+  1   orders fail, an input has a fault, or a test failed
+  2   the words make no sense
+  10  nodes were left out, and no failure was found among the others"""
+
+
+def sights_of(text: str) -> tuple[str, ...]:
+    """What is seen, from words with commas between them, each at most once."""
+    chosen = text.split(",")
+    if any(word not in seen.SIGHTS for word in chosen) or len(set(chosen)) < len(chosen):
+        raise argparse.ArgumentTypeError(f"{text}: say one or more of {','.join(seen.SIGHTS)}, each once")
+    return tuple(word for word in seen.SIGHTS if word in chosen)
 
 
 def parser() -> Parser:
-    words = Parser("test-orders", USAGE, DESCRIPTION, "tools/test-orders ./xousim --search examples/orders/lost.image --quantum 1")
+    example = "tools/test-orders ./xousim --search examples/orders/lost.image --quantum 1"
+    words = Parser("test-orders", USAGE, DESCRIPTION, example, statuses=STATUSES)
 
     def number(what: str):
         return lambda text: decimal(text, what)
@@ -38,13 +54,35 @@ def parser() -> Parser:
     words.add_argument("--irq", type=number("interrupt"), action="append", default=[], metavar="K", help="an interrupt that may come once")
     words.add_argument("--kill", type=number("pid"), action="append", default=[], metavar="PID", help="a death that may come once")
     words.add_argument("--write", metavar="DIR", help="a folder for event files, one for each ending")
+    words.add_argument("--see", type=sights_of, action="append", default=[], metavar="WHAT,..", help="what is seen of endings; all by default")
+    words.add_argument("--hex", action="store_true", help="the console as hexadecimal digits")
+    fail = "an ending with it fails: exit, fault, waits, waits=PID.TID, console=TEXT, console-not=TEXT or differ"
+    words.add_argument("--fails", action="append", default=[], metavar="WHAT", help=fail)
+    words.add_argument("--first", dest="stops", action="store_true", help="stop at the first that fails")
+    words.add_argument("--one", action="store_true", help="the same as --fails differ")
     return words
 
 
+def failures_of(given: argparse.Namespace, sights: tuple[str, ...]) -> tuple[fails.Failing, ...]:
+    """What makes an ending fail, but for `differ`."""
+    failing = tuple(fails.failing_of(word) for word in given.fails if word != fails.DIFFER)
+    unseen = [each.kind for each in failing if each.kind in (fails.EXIT, fails.FAULT)]
+    if unseen and seen.EXITS not in sights:
+        raise Refusal(f"--fails {unseen[0]}: exits aren't seen; add them to --see", USAGE_STATUS)
+    if len(failing) > fails.MOST_FAILS:
+        raise Refusal(f"--fails is given {len(failing)} times; at most {fails.MOST_FAILS}", USAGE_STATUS)
+    return failing
+
+
 def asked_of(given: argparse.Namespace) -> orders.Asked:
+    if len(given.see) > 1:
+        raise Refusal("--see is given more than once; name what is seen with commas", USAGE_STATUS)
+    sights = given.see[0] if given.see else seen.SIGHTS
     once = [events.Event(0, name, (number,)) for name, numbers in (("irq", given.irq), ("kill", given.kill)) for number in numbers]
     first, _ = events.read(read_file(given.first, MOST_EVENT_BYTES)) if given.first else ([], None)
-    return orders.Asked(given.quantum, given.steps, given.states, tuple(once), first)
+    differ = given.one or fails.DIFFER in given.fails
+    bounds = given.quantum, given.steps, given.states
+    return orders.Asked(*bounds, tuple(once), first, sights, given.hex, failures_of(given, sights), differ, given.stops)
 
 
 def search(program: str, image: str, asked: orders.Asked) -> tuple[Found, list[orders.Node]]:
@@ -69,8 +107,12 @@ def main(line: list[str]) -> int:
     program = os.path.abspath(given.program)
     if not os.access(program, os.X_OK):
         raise Refusal(f"{given.program}: no program that can be started")
-    told, endings = search(program, given.search, asked_of(given))
+    asked = asked_of(given)
+    told, endings = search(program, given.search, asked)
     print("\n".join(told.lines()))
     if given.write:
         write_orders(given.write, endings)
-    return 0
+    status = told.status(asked.asks_for_failures())
+    if status == CUT:
+        say("test-orders", "cut: nodes were left out; give --states more, or narrow the search")
+    return status

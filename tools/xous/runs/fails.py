@@ -1,9 +1,10 @@
-"""What fails at the end of a run: exits, faults, and threads that wait for good (docs/orders.md)."""
+"""What fails at the end of a run: exits, faults, threads that wait for good, and what the console has (docs/orders.md)."""
 
 from __future__ import annotations
 
 import re
-from collections.abc import Iterator
+from collections.abc import Iterable, Iterator
+from dataclasses import dataclass
 
 from ..errors import Refusal
 from ..machine import FIRST_PID, MOST_PROCESSES, MOST_TIDS
@@ -12,22 +13,67 @@ from .ended import FAULT as ENDED_BY_FAULT
 from .ended import Ended
 from .seen import Seen
 
-EXIT, FAULT, WAITS = "exit", "fault", "waits"
-WAITER = re.compile(r"([0-9]{1,10})(?:\.([0-9]{1,10}))?")
+EXIT, FAULT, WAITS, CONSOLE, CONSOLE_NOT, DIFFER = "exit", "fault", "waits", "console", "console-not", "differ"
+MOST_FAILS = 255  # in one command
+WAITER = re.compile(r"([1-9][0-9]?)(?:\.([1-9][0-9]?))?")
+
+
+@dataclass(frozen=True)
+class Failing:
+    """What makes an ending a failure: a kind, and for the console a text, or for waits a process or thread."""
+
+    kind: str
+    text: str = ""
+
+    def spelled(self) -> str:
+        return f"{self.kind}={self.text}" if self.text else self.kind
+
+    def has_text(self, seen: Seen) -> bool:
+        return self.text.encode(errors="surrogateescape") in seen.console
+
+    def holds(self, seen: Seen) -> bool:
+        """Whether an ending of which this is seen fails so."""
+        if self.kind in (EXIT, FAULT):
+            return any(is_bad(self.kind, ended) for ended in seen.ends.values())
+        if self.kind == WAITS:
+            return any(waiting(seen, waiter_of(self.text) if self.text else ()))
+        return self.has_text(seen) == (self.kind == CONSOLE)
+
+
+def failing_of(word: str) -> Failing:
+    """What a word of --fails asks for, but for `differ`."""
+    kind, is_more, text = word.partition("=")
+    if kind in (EXIT, FAULT, WAITS) and not is_more:
+        return Failing(kind)
+    if kind == WAITS:
+        waiter_of(text)
+    elif kind not in (CONSOLE, CONSOLE_NOT) or not text:
+        raise Refusal(f"--fails {word}: say exit, fault, waits, waits=PID.TID, console=TEXT, console-not=TEXT or differ", 2)
+    return Failing(kind, text)
+
+
+def first_of(fails: Iterable[Failing], seen: Seen) -> str:
+    """The first of these of which an ending fails, as it is spelled; nothing if it fails of none."""
+    return next((failing.spelled() for failing in fails if failing.holds(seen)), "")
 
 
 def is_bad(kind: str, ended: Ended) -> bool:
     return ended.is_failing_exit() if kind == EXIT else ended.how == ENDED_BY_FAULT
 
 
-def stuck(seen: Seen, who: tuple[int, ...]) -> Iterator[str]:
-    """The threads that wait for an answer or a thread, for good: nobody is ready. Those of a process or one thread, if `who` names it."""
-    threads = [each for standings in seen.processes.values() for each in standings or ()]
-    if any(each.how == state.READY for each in threads):
-        return
-    for each in threads:
-        if each.is_stuck() and (each.pid, each.tid)[: len(who)] == who:
-            yield f"{each.pid}.{each.tid}"
+def waiting(seen: Seen, who: tuple[int, ...] = ()) -> Iterator[str]:
+    """The threads that wait for an answer or a thread; those of a process or one thread, if `who` names it."""
+    for standings in seen.processes.values():
+        for each in standings or ():
+            if each.is_stuck() and (each.pid, each.tid)[: len(who)] == who:
+                yield f"{each.pid}.{each.tid}"
+
+
+def stuck(seen: Seen, who: tuple[int, ...] = ()) -> Iterator[str]:
+    """Those that wait for good: nobody is ready."""
+    threads = (each for standings in seen.processes.values() for each in standings or ())
+    if not any(each.how == state.READY for each in threads):
+        yield from waiting(seen, who)
 
 
 def waiter_of(text: str) -> tuple[int, ...]:

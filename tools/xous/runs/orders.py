@@ -25,9 +25,9 @@ from ..errors import Refusal
 from ..machine import MOST_STEPS, TIMER_INTERRUPT
 from ..states import state
 from ..transcripts import decode
-from . import events, found
+from . import events, fails, found
 from .ended import Ended, ends_of
-from .seen import of_state
+from .seen import EXITS, SIGHTS, of_state
 
 WORKERS = 3
 
@@ -35,13 +35,22 @@ WORKERS = 3
 @dataclass
 class Asked:
     """What is searched: the quantum, the bound of steps where these count, how many nodes at most, events that may come once, and
-    the events that are played first."""
+    the events that are played first; what is seen of endings, and the console as digits or not; what makes them failures, whether that
+    is if they differ too, and whether the search stops at the first."""
 
     quantum: int = 1000
     steps: int = 100_000
     states: int = 100_000
     once: tuple = ()
     first: list = field(default_factory=list)
+    sights: tuple[str, ...] = SIGHTS
+    is_hex: bool = False
+    fails: tuple[fails.Failing, ...] = ()
+    differ: bool = False
+    stops: bool = False
+
+    def asks_for_failures(self) -> bool:
+        return bool(self.fails) or self.differ
 
 
 @dataclass
@@ -76,7 +85,7 @@ class Search:
         self.program, self.image, self.asked, self.folder, self.counts = program, image, asked, folder, counts
         self.files, self.slices = itertools.count(), 0
         self.nodes, self.endings = {}, []
-        self.whole = True
+        self.whole, self.stopped = True, False
 
     # Runs.
 
@@ -125,13 +134,17 @@ class Search:
         last = records[0].step if len(records) > 1 else min(records[-1].step, machine.steps + most)
         own = [record for record in records if record.step == last]
         path = [*node.path, pick, events.tick(last - machine.steps)]
-        ends = ends_on(node.ends, own)
+        ends = self.ends_on(node.ends, own)
         return self.visited(Node(path, node.slices + 1, node.console + written_in(own), node.once, ends))
 
     def after_event(self, node, event):
         rest = tuple(other for other in node.once if other is not event)
-        ends = ends_on(node.ends, self.records("resume", node.file, [event]))
+        ends = self.ends_on(node.ends, self.records("resume", node.file, [event]))
         return self.visited(Node([*node.path, event], node.slices, node.console, rest, ends))
+
+    def ends_on(self, ends, records):
+        """What processes ended with that ended before, and in these records, if exits are seen."""
+        return ends_on(ends, records) if EXITS in self.asked.sights else {}
 
     # The search.
 
@@ -148,6 +161,8 @@ class Search:
         self.nodes[key] = node
         if self.is_ending(node):
             self.endings.append(node)
+            if self.asked.stops and self.failing(node):
+                self.whole, self.stopped = False, True
         return True
 
     def successors(self, pool, node):
@@ -169,25 +184,32 @@ class Search:
         first.ends = {}  # of what was played before the search it isn't kept
         with ThreadPoolExecutor(WORKERS) as pool:
             level = [first] if self.meet(first) else []
-            while level:
+            while level and not self.stopped:
                 jobs = [(node, self.successors(pool, node)) for node in level]
                 level = []
                 for node, coming in jobs:
                     met = [job.result() for job in coming]
-                    level += [other for other in met if self.meet(other)]
+                    level += [other for other in met if not self.stopped and self.meet(other)]
                     node.machine = None if node not in self.endings else node.machine
         return self
 
     # What is told.
 
+    def failing(self, node):
+        """What an ending fails of first, as it is spelled."""
+        return fails.first_of(self.asked.fails, seen(node))
+
     def told(self):
-        """What was found, where endings that look alike are one, and of each a node with the shortest order."""
+        """What was found, where endings that look alike and fail of the same are one, and of each a node with the shortest order."""
         alike = {}
         for node in self.endings:
-            alike.setdefault(seen(node).text(), []).append(node)
-        endings = tuple(found.Ending(text, len(nodes), nodes[0].slices) for text, nodes in alike.items())
+            text = seen(node).text(self.asked.sights, self.asked.is_hex)
+            alike.setdefault((text, self.failing(node)), []).append(node)
+        endings = tuple(found.Ending(text, len(nodes), nodes[0].slices, what) for (text, what), nodes in alike.items())
         within = self.asked.steps if self.counts else None
-        return found.Found(len(self.nodes), self.slices, self.whole, endings, within), [nodes[0] for nodes in alike.values()]
+        differ = self.asked.differ and len(endings) > 1
+        told = found.Found(len(self.nodes), self.slices, self.whole, endings, within, differ)
+        return told, [nodes[0] for nodes in alike.values()]
 
 
 def ends_on(ends, records):

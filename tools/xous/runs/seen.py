@@ -13,6 +13,8 @@ from ..states import state
 from ..transcripts.history import History
 from .ended import Ended
 
+CONSOLE, EXITS, WAITS, SERVERS = SIGHTS = "console", "exits", "waits", "servers"  # what can be seen
+
 
 @dataclass(frozen=True)
 class Standing:
@@ -30,13 +32,14 @@ class Standing:
         """Whether it waits for an answer or for a thread."""
         return self.how in (state.WAITING, state.JOINING)
 
-    def text(self, has_number: bool = False) -> str:
+    def text(self, has_number: bool = False, has_server: bool = True) -> str:
         name = f"{self.pid}.{self.tid}"
+        place = f" at {self.server}" if has_server else ""
         if self.how == state.RECEIVING:
-            return f"{name} receives at {self.server}"
+            return f"{name} receives{place}"
         if self.how == state.WAITING:
             number = f" for message {self.message}" if has_number else ""
-            return f"{name} waits{number}{f', {self.kept} at {self.server}' if self.kept else ''}"
+            return f"{name} waits{number}{f', {self.kept}{place}' if self.kept else ''}"
         if self.how == state.JOINING:
             return f"{name} joins {self.pid}.{self.joined}"
         return f"{name} ready"
@@ -51,19 +54,24 @@ class Seen:
     processes: dict[int, list[Standing] | None]
     ends: dict[int, Ended] = field(default_factory=dict)
 
-    def text(self) -> str:
-        """As xousorders prints it."""
-        return "; ".join([console_text(self.console), *(self.process_text(pid) for pid in self.processes)])
+    def text(self, sights: tuple[str, ...] = SIGHTS, is_hex: bool = False) -> str:
+        """As xousorders prints it: as much as is asked for. A process that is gone is told where exits are seen or for what threads wait,
+        and one that lives where that is."""
+        parts = [console_text(self.console, is_hex)] if CONSOLE in sights else []
+        for pid, threads in self.processes.items():
+            if WAITS in sights or (threads is None and EXITS in sights):
+                parts.append(self.process_text(pid, sights=sights))
+        return "; ".join(parts)
 
-    def process_text(self, pid: int, has_numbers: bool = False) -> str:
+    def process_text(self, pid: int, has_numbers: bool = False, sights: tuple[str, ...] = SIGHTS) -> str:
         threads, ended = self.processes[pid], self.ends.get(pid)
         if threads is None:
-            return f"{pid} {ended.text() if ended else 'gone'}"
-        return f"{pid} waits: {', '.join(each.text(has_numbers) for each in threads)}"
+            return f"{pid} {ended.text() if ended and EXITS in sights else 'gone'}"
+        return f"{pid} waits: {', '.join(each.text(has_numbers, SERVERS in sights) for each in threads)}"
 
 
-def console_text(console: bytes) -> str:
-    return f"console {names.quoted(console)}"
+def console_text(console: bytes, is_hex: bool = False) -> str:
+    return f"console {(console.hex() or 'empty') if is_hex else names.quoted(console)}"
 
 
 def of_state(machine: state.State, console: bytes, ends: dict[int, Ended]) -> Seen:

@@ -19,7 +19,7 @@ from ..transcripts.stored import record_of
 CONSOLE, EXITS, WAITS, SERVERS, NUMBERS = "console", "exits", "waits", "servers", "numbers"
 SEE = (CONSOLE, EXITS, WAITS, SERVERS, NUMBERS)
 USUAL_SEE = (CONSOLE, EXITS, WAITS)
-EXIT, FAULT, CONSOLE_NOT, LIMIT, NONE = fails.EXIT, fails.FAULT, "console-not", "limit", "none"
+EXIT, FAULT, CONSOLE_NOT, LIMIT, NONE = fails.EXIT, fails.FAULT, fails.CONSOLE_NOT, "limit", "none"
 USUAL_FAILS = (EXIT, FAULT, WAITS)
 # A Yield changes nothing that is seen at the end, and long transcripts are full of them. Its reply comes right behind it.
 YIELDS = re.compile(rb"^(\d+ \d+\.\d+) call 00000003 [^\n]*\n\1 reply [^\n]*\n", re.M)
@@ -49,14 +49,8 @@ class Outcome:
 
 
 @dataclass(frozen=True)
-class Rule:
-    """What makes a run a failed one: a kind, and for the console a text, or for waits a process or thread."""
-
-    kind: str
-    text: str = ""
-
-    def spelled(self) -> str:
-        return f"{self.kind}={self.text}" if self.text else self.kind
+class Rule(fails.Failing):
+    """What makes a run a failed one: as for an ending of a search, or that the step limit is met."""
 
     def failures(self, outcome: Outcome) -> Iterator[str]:
         """In words what fails of a run."""
@@ -67,10 +61,8 @@ class Rule:
             yield from (f"{name} waits" for name in fails.stuck(outcome.seen, who))
         elif self.kind == LIMIT and outcome.met_limit:
             yield "step limit"
-        elif self.kind in (CONSOLE, CONSOLE_NOT):
-            has_text = self.text.encode() in outcome.seen.console
-            if has_text == (self.kind == CONSOLE):
-                yield self.spelled()
+        elif self.kind in (CONSOLE, CONSOLE_NOT) and self.holds(outcome.seen):
+            yield self.spelled()
 
 
 # What stands before a text of the console; those with a space are old names.
