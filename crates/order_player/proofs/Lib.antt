@@ -1,5 +1,5 @@
 mod KeptLemmas
 mod MoveLemmas
-mod OrderLemmas
+pub mod OrderLemmas
 mod QuietLemmas
 mod StepLemmas

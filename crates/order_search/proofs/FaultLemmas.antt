@@ -12,7 +12,8 @@ use Rattle.order_model.specs.Moves.{Asked, Point}
 use Rattle.order_model.specs.Nodes.{goes_on}
 use Rattle.order_player.specs.declared.moves.MoveFault.{MoveFault}
 use Rattle.order_player.specs.declared.moves.MoveFault.TheVariants as moves
-use Rattle.order_player.specs.Runs.{IsNearLimit, MeetsLimit}
+use Rattle.order_model.specs.declared.orders.Trail.{Trail}
+use Rattle.order_player.specs.Runs.{IsNearLimit, MeetsLimit, point_of}
 use Rattle.order_search.specs.Before.{Unplayed}
 use Rattle.order_search.specs.declared.quest.OrderFault.{OrderFault}
 use Rattle.order_search.specs.declared.quest.OrderFault.TheVariants.{Line, Steps, Timer}
@@ -20,6 +21,10 @@ use Rattle.order_search.specs.declared.subject.Subject.{Subject}
 use Rattle.order_search.specs.Faults.{IsFault, IsMemory, IsRunFault, IsUnchosen, IsUnplayed}
 use Rattle.order_search.specs.Quests.{Arrives, history_before, searching_of, start_of}
 use Rattle.xk_base.specs.declared.limits.TheConstants.{STEP_LIMIT, TIMER_INTERRUPT}
+use Rattle.xk_kernel.specs.Sound.{IsSound}
+use Rattle.xk_kernel.specs.State.{machine_of}
+use Rattle.xk_kernel.specs.declared.kernel.Kernel.{Kernel}
+use Rattle.xk_ports.specs.declared.store.SwapStore.{Ghosts as SwapStore}
 
 pub if_err : {T E : Type 0} (r : Result T E) (P Q : E → Type 0) → ((e : E) → P e → Q e) → IfErr r P → IfErr r Q
 if_err (Ok x) P Q f p = tt
@@ -80,6 +85,11 @@ module _ (s : Subject) where
   unchosen_caused path p arrives (Fault Steps) why = inr (near_there path p arrives why)
   unchosen_caused path p arrives (Fault Timer) why = absurd why
   unchosen_caused path p arrives (Fault (Line line)) why = absurd why
+
+-- beyond the limit it is near
+pub beyond_near : {W : Type 0} {S : SwapStore W} (asked : Asked) (k : Kernel W) (trail : Trail) (steps : ℕ) → IsSound S k
+    → steps ≡ (machine_of S.held k).steps → STEP_LIMIT < steps → IsNearLimit asked (point_of S k trail)
+beyond_near asked k trail steps sound is beyond = omega (arith, beyond, is)
 
 -- a choice isn't made where its move isn't played
 pub unplayed_unchosen : (asked : Asked) (p : Point) (fault : MoveFault) (answer : Unanswered OrderFault) → IsUnplayed fault answer

@@ -5,15 +5,22 @@ use Rattle.std.specs.Prelude.{get_or, map}
 use Rattle.std.proofs.Math.Seq.{take-suc}
 use Rattle.std.specs.List.{flat_map}
 use Rattle.std.proofs.lemmas.List.{flat_map_more, map-append}
+use Rattle.std.proofs.lemmas.List.{get_or_past}
+use Rattle.machine_laws.specs.Reserved.{IsReservedByThread}
+use Rattle.machine_model.specs.Runs.Matched.{Matched}
 use Rattle.machine_model.specs.State.Machine.{Machine}
 use Rattle.order_search.specs.Keys.{IsToldOf, came_byte, came_list, exits_bytes, exit_bytes, has_bound}
 use Rattle.order_model.specs.declared.exits.Exit.{Exit}
 use Rattle.order_model.specs.Moves.{Asked}
+use Rattle.order_model.specs.Nodes.{node_of}
+use Rattle.order_search.specs.Spelled.{IsExitTold, IsSpelled}
 use Rattle.order_model.specs.Asking.{bound_of, came_of}
+use Rattle.suspend_image.specs.Saveable.{IsSaveable, IsSpellable}
 use Rattle.suspend_image.specs.Spelling.{machine_bytes}
 use Rattle.suspend_image.specs.StateBytes.{saved_bytes, saved_parts}
 use Rattle.suspend_image.specs.Words.{word_bytes}
 use Rattle.xk_base.specs.Tables.Counting.{listed_below}
+use Rattle.xk_base.specs.declared.limits.TheConstants.{STEP_LIMIT}
 
 -- ---- bytes of the events that came
 
@@ -44,16 +51,16 @@ listed_came (b ∷ rest) =
 
 -- ---- bytes of what processes ended with
 
--- those of the next process
+-- those of the next pid
 pub next_exit : (exits : ℕ → Option Exit) (k : ℕ) (old bytes more : List ℕ)
-    → bytes ≡ old ++ flat_map (λ j. exit_bytes (exits (j + 2))) (listed_below k (λ j. true)) → more ≡ bytes ++ exit_bytes (exits (k + 2))
-    → more ≡ old ++ flat_map (λ j. exit_bytes (exits (j + 2))) (listed_below (k + 1) (λ j. true))
+    → bytes ≡ old ++ flat_map (λ pid. exit_bytes (exits pid)) (listed_below k (λ pid. true)) → more ≡ bytes ++ exit_bytes (exits k)
+    → more ≡ old ++ flat_map (λ pid. exit_bytes (exits pid)) (listed_below (k + 1) (λ pid. true))
 unfolding listed_below
 next_exit exits k old bytes more so_far added =
     let next : suc k ≡ k + 1 = omega arith in
-    let f = λ (j : ℕ). exit_bytes (exits (j + 2)) in
-    subst (λ (n : ℕ). more ≡ old ++ flat_map f (listed_below n (λ j. true))) next
-    (added ∙ (ap (λ (xs : List ℕ). xs ++ f k) so_far ∙ flat_map_more f old (listed_below k (λ j. true)) k))
+    let f = λ (pid : ℕ). exit_bytes (exits pid) in
+    subst (λ (n : ℕ). more ≡ old ++ flat_map f (listed_below n (λ pid. true))) next
+    (added ∙ (ap (λ (xs : List ℕ). xs ++ f k) so_far ∙ flat_map_more f old (listed_below k (λ pid. true)) k))
 
 -- ---- what is told of the point
 
@@ -82,3 +89,23 @@ saved_long m = omega arith
 
 pub long_enough : (bytes : List ℕ) (m : Machine) → bytes ≡ saved_bytes m → 36 ≤ length bytes
 long_enough bytes m is = subst (λ (b : List ℕ). 36 ≤ length b) (sym is) (saved_long m)
+
+-- ---- that it is told whole
+
+-- a state that was saved is one that state bytes spell
+pub spellable_of : (old new : Machine) → new ≡ old → Matched old → old.steps ≤ STEP_LIMIT → IsReservedByThread old
+    → (new.steps ≤ STEP_LIMIT → IsReservedByThread new → IsSaveable new) → IsSpellable old
+spellable_of old new same matched within reserved saveable =
+    let low : new.steps ≤ STEP_LIMIT = subst (λ (m : Machine). m.steps ≤ STEP_LIMIT) (sym same) within in
+    record { matched = matched; saveable = subst IsSaveable same (saveable low (subst IsReservedByThread (sym same) reserved)) }
+
+pub spelled_of : (asked : Asked) (m : Machine) (console : List ℕ) (came : List Bool) (exits : ℕ → Option Exit) → IsSpellable m
+    → length came ≡ length asked.once → ((pid : ℕ) → IsExitTold pid (exits pid))
+    → IsSpelled asked (node_of asked (record { state = m; console = console; came = came_of came; exits = exits }))
+spelled_of asked m console came exits spellable few told = record {
+  state = m;
+  spellable = spellable;
+  is = refl;
+  came = λ k high. get_or_past came k false (omega (arith, high, few));
+  exits = told;
+}

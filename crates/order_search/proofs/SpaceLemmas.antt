@@ -4,6 +4,8 @@ use Rattle.std.proofs.lemmas.Map.Text.{is_eq-slice_cmp}
 use Rattle.std.proofs.lemmas.Option.{same_Some}
 use Rattle.std.proofs.lemmas.Slice.Eq.{bytes_eq-Decides}
 use Rattle.std.specs.Ordering.{nat_cmp}
+use Rattle.std.specs.declared.cmp.Ordering.{Ordering}
+use Rattle.std.specs.declared.cmp.Ordering.TheVariants.{Equal}
 use Rattle.std.specs.Cmp.Lexicographic.{slice_cmp}
 use Rattle.boot_plan.specs.Lawful.{CanStart, IsLawfulPlan}
 use Rattle.order_model.proofs.Moving.SearchLemmas.{orders_are_told, told_are_orders}
@@ -19,7 +21,9 @@ use Rattle.order_model.specs.Edges.{AreEdgesBy}
 use Rattle.order_search.proofs.OrderLemmas.{edges_right, note_right}
 use Rattle.order_search.proofs.QuestLemmas.{arrived_matched, path_leads, start_matched}
 use Rattle.order_search.specs.declared.subject.Subject.{Subject}
-use Rattle.order_search.specs.Found.{FindsNodes, TellsAllOrders, TellsOrders, finding_of, telling_of}
+use Rattle.order_search.proofs.TellLemmas.{bytes_tell_nodes}
+use Rattle.order_search.specs.Found.{DigestsTell, FindsNodes, IsMet, TellsAllOrders, TellsOrders, finding_of, telling_of}
+use Rattle.order_search.specs.Keys.{key_of}
 use Rattle.order_search.specs.Quests.{Arrives, IsKeyOf, IsPath, Searching, first_node, next_node, searching_of, start_of}
 use Rattle.graph_search.specs.declared.found.Edge.{Edge}
 use Rattle.graph_search.specs.declared.space.Successor.{Successor}
@@ -29,7 +33,7 @@ use Rattle.graph_search.proofs.MeetLemmas.{is_equal}
 use Rattle.graph_search.specs.declared.found.Cut.TheVariants.{Nodes}
 use Rattle.graph_search.specs.declared.found.Extent.TheVariants.{Cut}
 use Rattle.graph_search.specs.declared.found.Found.{Found}
-use Rattle.graph_search.specs.Told.{KeysAgree, TellsAll, TellsOnce}
+use Rattle.graph_search.specs.Told.{KeysAgree, KeysTell, TellsAll, TellsOnce}
 use Rattle.order_search.specs.declared.quest.OrderFault.{OrderFault}
 
 -- ---- the start
@@ -47,7 +51,7 @@ start_key s here key arrives is =
 -- a node has one key
 pub keys_agree : (q : Searching) → KeysAgree (IsKeyOf q) (slice_cmp nat_cmp)
 keys_agree q node j k a b =
-    is_equal (slice_cmp nat_cmp j k) (is_eq-slice_cmp j k ∙ (bytes_eq-Decides j k).1 (a ∙ sym b))
+    is_equal (slice_cmp nat_cmp j k) (is_eq-slice_cmp j k ∙ (bytes_eq-Decides j k).1 (a.is ∙ sym b.is))
 
 module _ (s : Subject) (lawful : IsLawfulPlan (length s.file.items) s.plan) (can_start : All CanStart s.plan.procs) where
   -- ---- a node
@@ -69,6 +73,15 @@ module _ (s : Subject) (lawful : IsLawfulPlan (length s.file.items) s.plan) (can
         (arrived_matched s lawful can_start path to.last to.leads) (by to.last to.leads)
 
   -- ---- what a search says
+
+  -- keys tell nodes apart if digests tell their bytes
+  pub keys_tell : (cmp : List ℕ → List ℕ → Ordering) → DigestsTell (searching_of s) cmp
+      → KeysTell (next_node (searching_of s)) (first_node (searching_of s)) (IsKeyOf (searching_of s)) cmp
+  keys_tell cmp tell p r m n j k to_m to_n a b equal =
+      let one : IsMet (searching_of s) m = record { order = p; leads = path_leads s lawful can_start p m to_m; spelled = a.spelled } in
+      let other : IsMet (searching_of s) n = record { order = r; leads = path_leads s lawful can_start r n to_n; spelled = b.spelled } in
+      let same : cmp (key_of (asked_of s.orders) m) (key_of (asked_of s.orders) n) ≡ Equal = (λ i. cmp (sym a.is i) (sym b.is i)) ∙ equal in
+      bytes_tell_nodes (asked_of s.orders) m n a.spelled b.spelled (tell m n one other same)
 
   pub sound_orders : (edges : List (Edge Move)) (notes : List Note) → IsSound (telling_of (searching_of s) edges notes)
       → TellsOrders (telling_of (searching_of s) edges notes)

@@ -1,25 +1,37 @@
 -- What a search of orders says.
 use Rattle.std.specs.Prelude.{◌≡◌, ◌≤◌, ◌+◌, ◌-◌, ℕ, List, length, Some}
 use Rattle.std.specs.declared.cmp.Ordering.{Ordering}
+use Rattle.std.specs.declared.cmp.Ordering.TheVariants.{Equal}
+use Rattle.sha2.specs.Sha256.{sha256}
 use Rattle.order_model.specs.declared.moves.Move.{Move}
 use Rattle.order_model.specs.declared.moves.Note.{Note}
 use Rattle.order_model.specs.Moves.{Point, leads_by}
-use Rattle.order_model.specs.Searches.{IsPointTold, IsSound, IsToldOrder, Telling}
-use Rattle.order_search.specs.Quests.{IsKeyOf, Searching, first_node, next_node, searching_of}
+use Rattle.order_model.specs.Searches.{IsPointTold, IsSound, IsToldOrder, LeadsTo, Telling}
+use Rattle.order_search.specs.Keys.{node_bytes}
+use Rattle.order_search.specs.Quests.{Searching, first_node, next_node, searching_of}
+use Rattle.order_search.specs.Spelled.{IsSpelled}
 use Rattle.order_search.specs.declared.subject.Subject.{Subject}
 use Rattle.graph_search.specs.declared.found.Cut.TheVariants.{Nodes}
 use Rattle.graph_search.specs.declared.found.Extent.{Extent}
 use Rattle.graph_search.specs.declared.found.Extent.TheVariants.{Cut, Whole}
 use Rattle.graph_search.specs.declared.found.Found.{Found}
 use Rattle.graph_search.specs.declared.found.Edge.{Edge}
-use Rattle.graph_search.specs.Told.{KeysTell, TellsOnce}
+use Rattle.graph_search.specs.Told.{TellsOnce}
 
 abbrev pub telling_of : Searching → List (Edge Move) → List Note → Telling
 telling_of q edges notes = record { asked = q.asked; start = q.start; edges = edges; notes = notes }
 
--- no two nodes to which orders lead have one digest
+-- an order leads to the node, and its bytes tell it
+pub record IsMet (q : Searching) (node : Point) : Type 0 where
+  pub order : List Move
+  pub leads : LeadsTo q.asked q.start order node
+  pub spelled : IsSpelled q.asked node
+
+-- **No collision**: the digests of nodes that orders lead to compare as equal only where the bytes are the same of which they are made.
 abbrev pub DigestsTell : Searching → (List ℕ → List ℕ → Ordering) → Type 0
-DigestsTell q cmp = KeysTell (next_node q) (first_node q) (IsKeyOf q) cmp
+DigestsTell q cmp =
+    (one other : Point) → IsMet q one → IsMet q other → cmp (sha256 (node_bytes q.asked one)) (sha256 (node_bytes q.asked other)) ≡ Equal
+    → node_bytes q.asked one ≡ node_bytes q.asked other
 
 -- **Sound**: each node that is told is one to which its order leads, and its note tells whether the order ends there.
 abbrev pub TellsOrders : Telling → Type 0
@@ -53,6 +65,6 @@ pub record FindsNodes (limit : ℕ) (f : Finding) : Type 0 where
   pub within : length f.edges ≤ limit - 1
   pub cut : f.extent ≡ Cut Nodes → limit ≤ length f.edges + 1
 
--- **A whole search finds all**, if no two nodes have one digest.
+-- **A whole search finds all**, if no two of these byte strings have one digest.
 abbrev pub FindsAllOrders : (List ℕ → List ℕ → Ordering) → Finding → Type 0
 FindsAllOrders cmp f = f.extent ≡ Whole → DigestsTell (searching_of f.searched) cmp → TellsAllOrders (telling_in f)

@@ -3,6 +3,8 @@ pub mod Booted
 pub mod Faults
 pub mod Found
 pub mod Keys
+pub mod Marks
 pub mod Quests
 pub mod Replays
 pub mod Rows
+pub mod Spelled

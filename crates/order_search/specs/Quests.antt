@@ -3,6 +3,7 @@ use Rattle.std.specs.List.{Contains}
 use Rattle.std.specs.Prelude.{◌≡◌, ℕ, false, List, Option, Some, None}
 use Rattle.event_player.specs.History.{History, run_of}
 use Rattle.order_search.specs.Keys.{key_of}
+use Rattle.order_search.specs.Spelled.{IsSpelled}
 use Rattle.order_model.specs.declared.moves.Move.{Move}
 use Rattle.order_model.specs.Moves.{Asked, Point, bytes_of, leads_by}
 use Rattle.order_model.specs.Nodes.{after, node_of}
@@ -42,9 +43,10 @@ first_node q = node_of q.asked q.start
 abbrev pub next_node : Searching → Point → Move → Option Point
 next_node q = after q.asked
 
--- the key of a node, as its bytes
-abbrev pub IsKeyOf : Searching → Point → List ℕ → Type 0
-IsKeyOf q node key = key ≡ key_of q.asked node
+-- the key of a node that its bytes tell
+pub record IsKeyOf (q : Searching) (node : Point) (key : List ℕ) : Type 0 where
+  pub is : key ≡ key_of q.asked node
+  pub spelled : IsSpelled q.asked node
 
 -- the path leads to a node
 abbrev pub IsPath : Searching → List Move → Type 0

@@ -1,12 +1,13 @@
 //! The edges that leave a node.
 
 ghost use Rattle.std.specs.Prelude.{◌≡◌, ◌≤◌, IfErr, IfOk, OnOk, Some, length};
+ghost use Rattle.machine_laws.specs.Reserved.{IsReservedByThread};
 ghost use Rattle.suspend_image.specs.Sheets.{room_for};
 ghost use Rattle.xk_kernel.specs.Knowing.{IsTrusted};
 ghost use Rattle.xk_kernel.specs.Sound.{IsSound, IsUsable, Keeps};
 ghost use Rattle.xk_kernel.specs.State.{machine_of};
 ghost use Rattle.graph_search.specs.Edges.{HasCause};
-ghost use Rattle.order_search.specs.Faults.{IsFault, IsMemory, IsUnchosen};
+ghost use Rattle.order_search.specs.Faults.{IsFault, IsUnchosen};
 ghost use Rattle.order_model.specs.Moves.{Point, leads};
 ghost use Rattle.order_model.specs.Nodes.{node_of};
 ghost use Rattle.order_player.specs.Runs.{point_of};
@@ -22,6 +23,7 @@ use crate::runs::Run;
 use graph_search::{Successor, Unanswered};
 use order_model::{Choice, Move, Orders};
 use order_player::{play_move, play_thread};
+use xk_base::limits::STEP_LIMIT;
 use xk_ports::{SureStore, SwapStore};
 
 /// Makes the choice in a run, one of those that it has.
@@ -63,14 +65,19 @@ impl Quest {
         requires usable { IsUsable run.old.kernel }
         requires trusted { IsTrusted ⟦<SureStore as SwapStore>⟧ run.old.kernel }
         requires came { length run.old.trail.came.items ≡ length self.old.subject.orders.once.items }
+        requires reserved { IsReservedByThread (machine_of ⟦<SureStore as SwapStore>⟧.held run.old.kernel) }
         requires room { let m = machine_of ⟦<SureStore as SwapStore>⟧.held run.old.kernel in
             room_for m.processes m.capacity ≤ self.old.sheet.room }
         ensures key { let q = searching_of self.old.subject in
             IfOk result (λ key. IsKeyOf q (node_of q.asked (point_of ⟦<SureStore as SwapStore>⟧ run.old.kernel run.old.trail)) key) }
-        ensures fault { IfErr result IsMemory }
+        ensures fault { let q = searching_of self.old.subject in
+            IfErr result (IsUnchosen q.asked (point_of ⟦<SureStore as SwapStore>⟧ run.old.kernel run.old.trail)) }
         ensures subject { self.new.subject ≡ self.old.subject }
         ensures sound { IsSound ⟦<SureStore as SwapStore>⟧ run.new.kernel }
     {
+        if run.kernel.steps() > STEP_LIMIT {
+            return Err(Unanswered::Fault(OrderFault::Steps));
+        }
         let Ok(()) = run.kernel.save(&mut self.sheet) else {
             return Err(no_memory());
         };
@@ -78,7 +85,16 @@ impl Quest {
             return Err(no_memory());
         };
         let counts = self.subject.orders.bound.is_some();
-        Ok(node_key(self.sheet.as_slice(), counts, &beside, &run.trail.console))
+        match node_key(
+            self.alloc,
+            &mut self.sheet,
+            counts,
+            &beside,
+            &run.trail.console,
+        ) {
+            Ok(key) => Ok(key),
+            Err(_) => Err(no_memory()),
+        }
     }
 
     /// The edge by a choice from the node of this path.

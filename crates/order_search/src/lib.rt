@@ -8,6 +8,7 @@ mod console;
 mod edges;
 mod keys;
 mod laws;
+mod marks;
 mod quest;
 mod runs;
 mod searching;
@@ -15,8 +16,7 @@ mod space;
 mod standing;
 mod subject;
 
-pub use keys::node_key;
-pub use laws::orders_are_replayed;
+pub use laws::{bytes_tell_nodes, orders_are_replayed};
 pub use quest::{OrderFault, Quest};
 pub use searching::search_orders;
 pub use standing::Stand;
