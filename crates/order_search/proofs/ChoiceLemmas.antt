@@ -1,11 +1,11 @@
 -- What is among the choices at a point may be made there.
-use Rattle.std.proofs.Common.{◌≡◌, ◌<◌, ◌⊎◌, inl, inr, ℕ, Bool, true, false, List, [], length, Option, Some, None, is_some, IsSome, refl, sym, subst, ◌∙◌, arith}
-use Rattle.std.specs.Prelude.{All, get_or, map, if◌then◌else◌}
+use Rattle.std.proofs.Common.{◌≡◌, ◌<◌, ◌⊎◌, inl, inr, ℕ, Bool, true, false, List, [], ◌∷◌, length, Option, Some, None, is_some, IsSome, refl, sym, subst, ◌∙◌, arith}
+use Rattle.std.specs.Prelude.{All, get_or, map, slice_get, if◌then◌else◌}
 use Rattle.std.specs.List.{Contains}
 use Rattle.std.specs.Option.{option_and_then, option_map}
 use Rattle.std.proofs.lemmas.List.{get_or-map, length-map}
 use Rattle.std.proofs.lemmas.List.Elements.{All-get_or, Contains-append_cases}
-use Rattle.std.proofs.lemmas.Option.{get_or_from_slice_get, slice_get-get_or}
+use Rattle.std.proofs.lemmas.Option.{none-some, same_Some, get_or_from_slice_get, slice_get-get_or}
 use Rattle.machine_model.specs.State.Order.{ready_at}
 use Rattle.machine_model.specs.Stepping.Step.{Recorded}
 use Rattle.order_model.specs.declared.moves.Move.TheVariants.{Once}
@@ -110,3 +110,11 @@ pub chosen : (asked : Asked) (p : Point) (choices : List Choice) (k : ℕ) (d : 
 chosen asked p choices k d low all =
     let at : Contains choices (get_or choices k d) = (k, low, same_read choices k d low) in
     record { among = subst (λ (cs : List Choice). Contains cs (get_or choices k d)) all at }
+
+-- the first of all choices
+pub first_chosen : (asked : Asked) (p : Point) (choices : List Choice) (first : Choice) → Some first ≡ slice_get choices 0
+    → choices ≡ choices_at asked p → IsChoice asked p first
+first_chosen asked p [] first at all = absurd (none-some first (sym at))
+first_chosen asked p (choice ∷ choices) first at all =
+    let here : IsChoice asked p choice = chosen asked p (choice ∷ choices) 0 choice (omega arith) all in
+    subst (IsChoice asked p) (sym (same_Some first choice at)) here

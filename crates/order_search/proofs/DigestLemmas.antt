@@ -35,8 +35,8 @@ parts_counted bytes new counts is so Unbounded m same bounded = absurd (false≢
 parts_counted bytes new counts is so (UpTo bound) m same bounded =
     subst (HasParts (set_aside (UpTo bound) m)) (sym (is ∙ ap placed_first same)) (counted bound m)
 
-pub parts_uncounted : (bytes : List ℕ) (new : List ℕ) (counts : Bool) → new ≡ with_word 24 0 (placed_first bytes) → counts ≡ false → (bound : Bound)
-    (m : Machine) → bytes ≡ saved_bytes m → counts ≡ has_bound bound → HasParts (set_aside bound m) new
+pub parts_uncounted : (bytes new : List ℕ) (counts : Bool) → new ≡ with_word 24 0 (placed_first bytes) → counts ≡ false
+    → (bound : Bound) (m : Machine) → bytes ≡ saved_bytes m → counts ≡ has_bound bound → HasParts (set_aside bound m) new
 parts_uncounted bytes new counts is so (UpTo bound) m same bounded = absurd (false≢true (sym so ∙ bounded))
 parts_uncounted bytes new counts is so Unbounded m same bounded =
     subst (HasParts (set_aside Unbounded m)) (sym (is ∙ ap (λ (b : List ℕ). with_word 24 0 (placed_first b)) same)) (uncounted m)

@@ -117,3 +117,9 @@ module _ (s : Subject) (path : List Move) (p : Point) (arrives : Arrives (search
           )
       go (Some bound) some =
           absurd (false≢true (sym (subst (λ (b : Option ℕ). goes_on (bound_of b) p.state ≡ false) some ends)))
+
+-- .. as it is seen in another subject, which is the same
+pub timer_there : (s t : Subject) (path : List Move) (p : Point) → t ≡ s → Arrives (searching_of s) path p
+    → goes_on (bound_of t.orders.bound) p.state ≡ false → IsFault s Timer
+timer_there s t path p same arrives ends =
+    timer_caused s path p arrives (subst (λ (x : Subject). goes_on (bound_of x.orders.bound) p.state ≡ false) same ends)

@@ -48,6 +48,14 @@ pub room_kept : {W : Type 0} {S : SwapStore W} {old new : Kernel W} (room : ℕ)
 unfolding machine_of
 room_kept room keeps within = subst (fits room) (sym keeps.size) within
 
+-- .. in a sheet with as much room
+pub room_still : {W : Type 0} {S : SwapStore W} {old new : Kernel W} (room other : ℕ) → other ≡ room → Keeps S old new
+    → room_for (machine_of S.held old).processes (machine_of S.held old).capacity ≤ room
+    → room_for (machine_of S.held new).processes (machine_of S.held new).capacity ≤ other
+room_still {S = S} {new = new} room other same keeps within =
+    subst (λ (r : ℕ). room_for (machine_of S.held new).processes (machine_of S.held new).capacity ≤ r) (sym same)
+    (room_kept room keeps within)
+
 -- ---- the start
 
 -- the room of a plan

@@ -10,6 +10,8 @@ use Rattle.order_model.specs.declared.orders.Trail.{Trail}
 use Rattle.order_model.specs.Asking.{came_of}
 use Rattle.order_model.specs.Choosing.{IsStand}
 use Rattle.order_model.specs.Exits.{exit_in}
+use Rattle.order_search.specs.declared.subject.Subject.{Subject}
+use Rattle.order_search.specs.Quests.{Arrives, searching_of}
 use Rattle.snapshot_rows.specs.declared.state.State.{State}
 use Rattle.snapshot_rows.specs.Machines.{machine_of as machine_in}
 use Rattle.suspend_image.proofs.Saved.StateAgainLemmas.{saved_spelled}
@@ -40,6 +42,24 @@ pub stands : (asked : Asked) (start : Point) (order : List Move) (p here : Point
 stands asked start order p here state trail at there rows console came exits =
     subst (λ (x : Point). IsStand x state trail) (one_point asked start order here p there at)
     (record { file = rows.0; rows = rows.1; console = console; came = came; exits = exits })
+
+-- where a run is that left this
+abbrev pub at : Machine → Trail → Point
+at m trail = record { state = m; console = trail.console.items; came = came_of trail.came.items; exits = exit_in trail.ends.items }
+
+-- rows of a run that stays where it was
+pub stands_on : (asked : Asked) (start : Point) (order : List Move) (p : Point) (m : Machine) (old new : Trail) (state : State)
+    → leads_by asked start order ≡ Some p → leads_by asked start order ≡ Some (at m old) → (file : List ℕ) × (machine_in file state ≡ m)
+    → new ≡ old → IsStand p state new
+stands_on asked start order p m old new state arrives there rows same =
+    stands asked start order p (at m old) state new arrives there rows (ap (λ (t : Trail). t.console.items) same)
+    (λ k. ap (λ (t : Trail). came_of t.came.items k) same) (λ pid. ap (λ (t : Trail). exit_in t.ends.items pid) same)
+
+pub arrives_still : (s t : Subject) (order : List Move) (m n : Machine) (old new : Trail) → t ≡ s → n ≡ m → new ≡ old
+    → Arrives (searching_of s) order (at m old) → Arrives (searching_of t) order (at n new)
+arrives_still s t order m n old new same machine trail there =
+    subst (λ (x : Subject). Arrives (searching_of x) order (at n new)) (sym same)
+    (there ∙ (λ i. Some (at (sym machine i) (sym trail i))))
 
 -- the rows that are read of the bytes of a state that was saved
 pub rows_of : (file : List ℕ) (old new : Machine) (state : State) → new ≡ old → Matched old → old.steps ≤ 4000000000 → IsReservedByThread old

@@ -79,7 +79,8 @@ fn are_told(ends: &[Ended])
 
 /// The bytes of what an order left beside its state, but for the console.
 pub(crate) fn beside_bytes(alloc: Global, trail: &Trail) -> Result<Vec<u8>, AllocError>
-    ensures bytes { IfOk result (λ bytes. bytes.items ≡ map came_byte trail.now.came.items ++ exits_bytes (exit_told trail.now.ends.items)) }
+    ensures bytes { IfOk result (λ bytes.
+        bytes.items ≡ map came_byte trail.now.came.items ++ exits_bytes (exit_told trail.now.ends.items)) }
     ensures told { (pid : ℕ) → IsExitTold pid (exit_told trail.now.ends.items pid) }
 {
     are_told(&trail.ends);

@@ -97,13 +97,21 @@ impl Quest {
         }
     }
 
-    /// The edge by a choice from the node of this path.
-    fn edge(
+    /// The edge by a choice from the node of this path, at the end of which a run is. It ends the run.
+    fn edge_on(
         &mut self,
         path: &[Move],
+        run: Run,
         choice: Choice,
     ) -> Result<Successor<Move, [u8; 32]>, Unanswered<OrderFault>>
-        requires path { IsPath (searching_of self.old.subject) path.now }
+        requires arrives { let q = searching_of self.old.subject in
+            Arrives q path.now (point_of ⟦<SureStore as SwapStore>⟧ run.kernel run.trail) }
+        requires came { length run.trail.came.items ≡ length self.old.subject.orders.once.items }
+        requires sound { IsSound ⟦<SureStore as SwapStore>⟧ run.kernel }
+        requires usable { IsUsable run.kernel }
+        requires trusted { IsTrusted ⟦<SureStore as SwapStore>⟧ run.kernel }
+        requires room { let m = machine_of ⟦<SureStore as SwapStore>⟧.held run.kernel in
+            room_for m.processes m.capacity ≤ self.old.sheet.room }
         requires may { let q = searching_of self.old.subject in
             (p : Point) → Arrives q path.now p → IsChoice q.asked p choice }
         ensures edge { let q = searching_of self.old.subject in
@@ -112,7 +120,7 @@ impl Quest {
         ensures fault { IfErr result (HasCause (IsFault self.old.subject)) }
         ensures subject { self.new.subject ≡ self.old.subject }
     {
-        let mut run = self.arrive(path)?;
+        let mut run = run;
         let label = match choose(&self.subject.orders, &mut run, choice) {
             Ok(label) => label,
             Err(fault) => {
@@ -128,13 +136,41 @@ impl Quest {
         }
     }
 
-    /// The edges by these choices, which are those at the end of the path.
+    /// The edge by a choice from the node of this path.
+    fn edge(
+        &mut self,
+        path: &[Move],
+        choice: Choice,
+    ) -> Result<Successor<Move, [u8; 32]>, Unanswered<OrderFault>>
+        requires path { IsPath (searching_of self.old.subject) path.now }
+        requires may { let q = searching_of self.old.subject in
+            (p : Point) → Arrives q path.now p → IsChoice q.asked p choice }
+        ensures edge { let q = searching_of self.old.subject in
+            (p : Point) → Arrives q path.now p → IfOk result (λ edge. IsEdge (IsKeyOf q) q.asked p edge) }
+        ensures choice { IfOk result (λ edge. choice_of edge.label ≡ choice) }
+        ensures fault { IfErr result (HasCause (IsFault self.old.subject)) }
+        ensures subject { self.new.subject ≡ self.old.subject }
+    {
+        let run = self.arrive(path)?;
+        self.edge_on(path, run, choice)
+    }
+
+    /// The edges by these choices, which are those at the end of the path. A run that is there makes the first.
     pub(crate) fn edges(
         &mut self,
         path: &[Move],
+        run: Run,
         choices: &[Choice],
     ) -> Result<Vec<Successor<Move, [u8; 32]>>, Unanswered<OrderFault>>
         requires path { IsPath (searching_of self.old.subject) path.now }
+        requires arrives { let q = searching_of self.old.subject in
+            Arrives q path.now (point_of ⟦<SureStore as SwapStore>⟧ run.kernel run.trail) }
+        requires came { length run.trail.came.items ≡ length self.old.subject.orders.once.items }
+        requires sound { IsSound ⟦<SureStore as SwapStore>⟧ run.kernel }
+        requires usable { IsUsable run.kernel }
+        requires trusted { IsTrusted ⟦<SureStore as SwapStore>⟧ run.kernel }
+        requires room { let m = machine_of ⟦<SureStore as SwapStore>⟧.held run.kernel in
+            room_for m.processes m.capacity ≤ self.old.sheet.room }
         requires may { let q = searching_of self.old.subject in
             (p : Point) → Arrives q path.now p → choices.now ≡ choices_at q.asked p }
         ensures edges { let q = searching_of self.old.subject in
@@ -143,8 +179,16 @@ impl Quest {
         ensures subject { self.new.subject ≡ self.old.subject }
     {
         let mut edges = Vec::new(self.alloc);
-        for choice in choices {
-            let edge = self.edge(path, *choice)?;
+        let Some(first) = choices.first() else {
+            run.close();
+            return Ok(edges);
+        };
+        let edge = self.edge_on(path, run, *first)?;
+        let Ok(()) = edges.push(edge) else {
+            return Err(no_memory());
+        };
+        for next in 1..choices.len() {
+            let edge = self.edge(path, choices[next])?;
             let Ok(()) = edges.push(edge) else {
                 return Err(no_memory());
             };

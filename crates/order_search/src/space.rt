@@ -47,8 +47,15 @@ impl Space for Quest {
         &mut self,
         path: &[Move],
     ) -> Result<Followed<Move, [u8; 32], Note>, Unanswered<OrderFault>> {
-        let sight = self.look(path)?;
-        let edges = self.edges(path, &sight.choices)?;
+        let mut run = self.arrive(path)?;
+        let sight = match self.look(path, &mut run) {
+            Ok(sight) => sight,
+            Err(fault) => {
+                run.close();
+                return Err(fault);
+            }
+        };
+        let edges = self.edges(path, run, &sight.choices)?;
         Ok(Followed {
             edges,
             note: sight.note,
