@@ -3,10 +3,10 @@
 
     bench/orders.py [--runs N]
 
-`xousorders` searches images of the examples; each time is that of the whole program, the best of five runs or of N, and the
-memory is the most that it had at one time. The system counts what this script has as the program's when it starts it, so of a
-program that has less than that no more is told. The program is $XOUSORDERS, else what stands in crates/xousorders/out. Without
-one it says so, and ends.
+`xousorders` searches images of the examples; each time is the processor's for the whole program, the best of five runs or of N,
+and the memory is the most that it had at one time. The system counts what this script has as the program's when it starts it,
+so of a program that has less than that no more is told. The program is $XOUSORDERS, else what stands in crates/xousorders/out.
+Without one it says so, and ends.
 """
 
 import argparse
@@ -15,7 +15,6 @@ import pathlib
 import subprocess
 import sys
 import tempfile
-import time
 
 import measure
 
@@ -45,16 +44,14 @@ def searcher():
 def run(words):
     """What a program wrote, how long it took, and how many bytes it had at most."""
     with tempfile.TemporaryFile() as written:
-        start = time.perf_counter()
         process = subprocess.Popen(words, stdout=written)
         _, status, usage = os.wait4(process.pid, 0)
-        took = time.perf_counter() - start
         process.returncode = os.waitstatus_to_exitcode(status)
         written.seek(0)
         told = written.read().decode()
     if process.returncode:
         raise SystemExit(f"the run failed with {process.returncode}: {' '.join(map(str, words))}: {told[-200:]}")
-    return told, took, 1024 * usage.ru_maxrss
+    return told, usage.ru_utime + usage.ru_stime, 1024 * usage.ru_maxrss
 
 
 def memory_text(most):
