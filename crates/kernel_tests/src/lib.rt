@@ -13,6 +13,8 @@ mod loan_runs;
 #[cfg(test)]
 mod loans;
 #[cfg(test)]
+mod orders;
+#[cfg(test)]
 mod processes;
 #[cfg(test)]
 mod queues;
