@@ -1,6 +1,12 @@
+pub mod FoundLemmas
+pub mod GoesLemmas
+pub mod GrowLemmas
+pub mod LeaveLemmas
 pub mod ListLemmas
 pub mod MeetLemmas
-pub mod OnceLemmas
+pub mod OrderLemmas
 pub mod PathLemmas
-pub mod StepLemmas
+pub mod SearchLemmas
+pub mod TakeLemmas
+pub mod WaitLemmas
 pub mod WholeLemmas

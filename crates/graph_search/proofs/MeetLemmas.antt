@@ -1,222 +1,145 @@
--- The nodes of edges are met one after another.
-use Rattle.std.proofs.Common.{◌≡◌, ◌≤◌, ◌<◌, ◌+◌, ℕ, zero, suc, Bool, true, false, cond, not, List, [], ◌∷◌, ◌++◌, length, Some, None, refl, sym, ap, ◌∙◌, arith, ◌⊎◌, inl, inr, append_assoc, append-nil}
+-- The edges that leave a node are met one after another.
+use Rattle.std.proofs.Common.{◌≡◌, ◌<◌, ℕ, zero, suc, true, List, [], ◌∷◌, ◌++◌, Option, Some, None, sym, ap, subst, ◌∙◌, refl, arith, ◌⊎◌, inl, inr, append_assoc, append-nil}
 use Rattle.std.specs.Prelude.{slice_get}
-use Rattle.std.proofs.lemmas.Bool.{false≢true}
-use Rattle.std.proofs.lemmas.Option.{slice_get_within}
 use Rattle.std.specs.declared.cmp.Ordering.{Ordering}
-use Rattle.std.specs.declared.cmp.Ordering.TheVariants.{Less, Equal, Greater}
-use Rattle.std.specs.Ordering.{is_eq}
-use Rattle.std.specs.BTreeSet.{contains, Updates, IsUnchanged}
-use Rattle.std.specs.List.{list_any}
-use Rattle.std.specs.BTreeMap.{is_at}
 use Rattle.graph_search.specs.declared.found.Edge.{Edge}
-use Rattle.graph_search.specs.declared.meeting.Search.{Search}
 use Rattle.graph_search.specs.declared.space.Successor.{Successor}
-use Rattle.graph_search.specs.Searching.{IsOneOf, Adds, IsAdded, Meets}
-use Rattle.graph_search.proofs.ListLemmas.{IsBehind, front_or_behind, slice_get-front, slice_get-behind}
+use Rattle.graph_search.specs.Edges.{IsKeyAt}
+use Rattle.graph_search.specs.Searching.{IsAnew, IsKnown, Meets, MeetsInTurn, Progress, has}
+use Rattle.graph_search.specs.Told.{IsFound}
+use Rattle.graph_search.proofs.ListLemmas.{IsBehind, front_or_behind}
+use Rattle.graph_search.proofs.FoundLemmas.{found_front}
+use Rattle.graph_search.proofs.GrowLemmas.{AreFound, found_on, stays_true}
 
-pub is_equal : (o : Ordering) → is_eq o ≡ true → o ≡ Equal
-is_equal Less e = absurd (false≢true e)
-is_equal Equal e = refl
-is_equal Greater e = absurd (false≢true e)
+at_most : (i n : ℕ) → i < suc n → (i < n) ⊎ (i ≡ n)
+at_most i n h = grind arith
 
-was_there : (b : Bool) → false ≡ not b → b ≡ true
-was_there true e = refl
-was_there false e = absurd (false≢true e)
+no_element : {A : Type 0} (x : A) → None ≡ Some x → ⊥
+no_element x h = cc
 
-either_true : (b c : Bool) → cond b true c ≡ true → (b ≡ true) ⊎ (c ≡ true)
-either_true true c h = inl refl
-either_true false c h = inr h
+module _ {Node Label Key Note : Type 0} (after : Node → Label → Option Node) (IsKey : Node → Key → Type 0) (cmp : Key → Key → Ordering)
+    (start : Node) (from : ℕ) (m : Node) (told : List (Successor Label Key))
+    (each : (i : ℕ) (s : Successor Label Key) → slice_get told i ≡ Some s → IsKeyAt after IsKey (after m s.label) s.key) where
+  -- the first n edges were met: their keys are seen, and edges from the node were added
+  pub record AreMet (n : ℕ) (old new : Progress Label Key Note) : Type 0 where
+    pub more : List (Edge Label)
+    pub is : new ≡ record old { edges = old.edges ++ more; keys = new.keys }
+    pub found : AreFound after IsKey cmp start (old.edges ++ more) new.keys
+    pub from_is : (k : ℕ) (e : Edge Label) → slice_get more k ≡ Some e → e.from ≡ from
+    pub there : (i : ℕ) (s : Successor Label Key) → i < n → slice_get told i ≡ Some s → has cmp new.keys s.key ≡ true
 
-stays_true : (b c : Bool) → c ≡ true → cond b true c ≡ true
-stays_true true c h = refl
-stays_true false c h = h
-
-module _ {Label Key : Type 0} where
-  -- one of the only edge
-  only_one : (from : ℕ) (s : Successor Label Key) (e : Edge Label) → IsOneOf from (s ∷ []) 1 e → s.label ≡ e.label
-  only_one from s e o = go o.place o.first o.is
-    where
-      go : (i : ℕ) → i < 1 → slice_get (s ∷ []) i ≡ Some o.successor → s.label ≡ e.label
-      go zero first is = let same : s ≡ o.successor = cc in ap (λ (t : Successor Label Key). t.label) same ∙ o.label_is
-      go (suc i) first is = absurd (omega arith)
-
-  pub adds_none : (from : ℕ) (told : List (Successor Label Key)) (n : ℕ) (edges after : List (Edge Label)) → after ≡ edges → Adds from told n edges after
-  adds_none from told n edges after same = record {
+  met_none : (p : Progress Label Key Note) → AreFound after IsKey cmp start p.edges p.keys → AreMet zero p p
+  met_none p found = record {
     more = [];
-    is = same ∙ sym (append-nil edges);
-    each = λ k e h. absurd (none h);
-  }
-    where
-      none : {e : Edge Label} → None ≡ Some e → ⊥
-      none h = cc
-
-  -- of the first n, and so of more
-  pub adds_of_more : (from : ℕ) (told : List (Successor Label Key)) (n m : ℕ) (edges after : List (Edge Label)) → n ≤ m
-      → Adds from told n edges after → Adds from told m edges after
-  adds_of_more from told n m edges after few adds = record {
-    more = adds.more;
-    is = adds.is;
-    each = λ k e h. (let o = adds.each k e h in record {
-      from_is = o.from_is;
-      place = o.place;
-      successor = o.successor;
-      first = (let f = o.first in omega (arith, few));
-      is = o.is;
-      label_is = o.label_is;
-    });
+    is = ap (λ (es : List (Edge Label)). record p { edges = es }) (sym (append-nil p.edges));
+    found = subst (λ (es : List (Edge Label)). AreFound after IsKey cmp start es p.keys) (sym (append-nil p.edges)) found;
+    from_is = λ k e h. absurd (no_element e h);
+    there = λ i s less. absurd (let no : ⊥ = omega (arith, less) in no);
   }
 
-  module _ {Note : Type 0} (cmp : Key → Key → Ordering) (from : ℕ) where
-    pub meets_none : (told : List (Successor Label Key)) (s : Search Label Key Note) → Meets cmp from told 0 s s
-    meets_none told s = record {
-      adds = record { more = []; is = sym (append-nil s.edges.items); each = λ k e h. absurd (none h) };
-      kept = λ q h. h;
-      there = λ i t first is. absurd (omega arith);
-      anew = λ q h. inl h;
-    }
+  module _ (n : ℕ) (s : Successor Label Key) (is : slice_get told n ≡ Some s) (old mid new : Progress Label Key Note)
+      (before : AreMet n old mid) where
+    there_too : ((q : Key) → has cmp mid.keys q ≡ true → has cmp new.keys q ≡ true) → has cmp new.keys s.key ≡ true
+        → (i : ℕ) (t : Successor Label Key) → i < suc n → slice_get told i ≡ Some t → has cmp new.keys t.key ≡ true
+    there_too kept now i t less at = go (at_most i n less)
       where
-        none : {e : Edge Label} → None ≡ Some e → ⊥
-        none h = cc
-
-    -- the edge is added, and its key is seen
-    pub meets_new : (s : Successor Label Key) (old new : Search Label Key Note)
-        → new.edges.items ≡ old.edges.items ++ (record { from = from; label = s.label }) ∷ []
-        → Updates cmp old.seen new.seen s.key true → Meets cmp from (s ∷ []) 1 old new
-    meets_new s old new edges updates = record {
-      adds = record { more = added ∷ []; is = edges; each = each };
-      kept = λ q h. updates.0 q ∙ stays_true (is_at (cmp s.key) q) (contains cmp old.seen q) h;
-      there = there;
-      anew = λ q h. anew q (either_true (is_at (cmp s.key) q) (contains cmp old.seen q) (sym (updates.0 q) ∙ h));
-    }
-      where
-        added : Edge Label
-        added = record { from = from; label = s.label }
-
-        each : (k : ℕ) (e : Edge Label) → slice_get (added ∷ []) k ≡ Some e → IsOneOf from (s ∷ []) 1 e
-        each zero e h =
-            let same : added ≡ e = cc in
-            record { from_is = ap (λ (x : Edge Label). x.from) (sym same); place = 0; successor = s; first = omega arith; is = refl; label_is = ap (λ (x : Edge Label). x.label) same }
-        each (suc k) e h = absurd (let no : ⊥ = cc in no)
-
-        there : (i : ℕ) (t : Successor Label Key) → i < 1 → slice_get (s ∷ []) i ≡ Some t → contains cmp new.seen t.key ≡ true
-        there zero t first is =
+        go : (i < n) ⊎ (i ≡ n) → has cmp new.keys t.key ≡ true
+        go (inl h) = kept t.key (before.there i t h at)
+        go (inr h) =
             let same : s ≡ t = cc in
-            ap (λ (x : Successor Label Key). contains cmp new.seen x.key) (sym same) ∙ updates.1
-        there (suc i) t first is = absurd (omega arith)
+            subst (λ (x : Successor Label Key). has cmp new.keys x.key ≡ true) same now
 
-        anew : (q : Key) → (is_at (cmp s.key) q ≡ true) ⊎ (contains cmp old.seen q ≡ true)
-            → (contains cmp old.seen q ≡ true) ⊎ IsAdded cmp (s ∷ []) 1 (added ∷ []) q
-        anew q (inl h) = inr (record {
-          place = 0;
-          edge = added;
-          is = refl;
-          told_place = 0;
-          successor = s;
-          first = omega arith;
-          told_is = refl;
-          label_is = refl;
-          equal = is_equal (cmp s.key q) h;
-        })
-        anew q (inr h) = inl h
-
-    -- the key was seen before
-    pub meets_known : (s : Successor Label Key) (old new : Search Label Key Note) → new.edges.items ≡ old.edges.items
-        → IsUnchanged old.seen new.seen → false ≡ not (contains cmp old.seen s.key) → Meets cmp from (s ∷ []) 1 old new
-    meets_known s old new edges keys known = record {
-      adds = record { more = []; is = edges ∙ sym (append-nil old.edges.items); each = λ k e h. absurd (none h) };
-      kept = λ q h. same q ∙ h;
-      there = there;
-      anew = λ q h. inl (sym (same q) ∙ h);
-    }
-      where
-        none : {e : Edge Label} → None ≡ Some e → ⊥
-        none h = cc
-
-        same : (q : Key) → contains cmp new.seen q ≡ contains cmp old.seen q
-        same q = ap (list_any (is_at (cmp q))) keys
-
-        there : (i : ℕ) (t : Successor Label Key) → i < 1 → slice_get (s ∷ []) i ≡ Some t → contains cmp new.seen t.key ≡ true
-        there zero t first is =
-            let one : s ≡ t = cc in
-            ap (λ (x : Successor Label Key). contains cmp new.seen x.key) (sym one) ∙ (same s.key ∙ was_there (contains cmp old.seen s.key) known)
-        there (suc i) t first is = absurd (omega arith)
-
-    -- the first n, and then the next
-    pub meets_next : (told : List (Successor Label Key)) (n : ℕ) (s : Successor Label Key) (a b c : Search Label Key Note)
-        → Meets cmp from told n a b → slice_get told n ≡ Some s → Meets cmp from (s ∷ []) 1 b c → Meets cmp from told (n + 1) a c
-    meets_next told n s a b c first is next = record {
-      adds = record {
-        more = first.adds.more ++ next.adds.more;
-        is = next.adds.is ∙ (ap (λ (es : List (Edge Label)). es ++ next.adds.more) first.adds.is ∙ append_assoc a.edges.items first.adds.more next.adds.more);
-        each = λ k e h. each k e (front_or_behind first.adds.more next.adds.more k e h);
-      };
-      kept = λ q h. next.kept q (first.kept q h);
-      there = λ i t within h. there i t h (at_most i within);
-      anew = λ q h. anew q (next.anew q h);
-    }
-      where
-        of_next : (e : Edge Label) → IsOneOf from (s ∷ []) 1 e → IsOneOf from told (n + 1) e
-        of_next e o = record {
-          from_is = o.from_is;
-          place = n;
-          successor = s;
-          first = omega arith;
-          is = is;
-          label_is = only_one from s e o;
+    met_known : IsKnown cmp from s mid new → AreMet (suc n) old new
+    met_known known =
+        let keys : new.keys ≡ mid.keys = ap (λ (p : Progress Label Key Note). p.keys) known.is in
+        let has_it : (q : Key) → has cmp mid.keys q ≡ true → has cmp new.keys q ≡ true =
+        λ q h. subst (λ (ks : List Key). has cmp ks q ≡ true) (sym keys) h in
+        record {
+          more = before.more;
+          is = known.is ∙ (before.is ∙ ap (λ (ks : List Key). record old { edges = old.edges ++ before.more; keys = ks }) (sym keys));
+          found = subst (AreFound after IsKey cmp start (old.edges ++ before.more)) (sym keys) before.found;
+          from_is = before.from_is;
+          there = there_too has_it (has_it s.key known.known);
         }
 
-        each : (k : ℕ) (e : Edge Label) → (slice_get first.adds.more k ≡ Some e) ⊎ IsBehind first.adds.more next.adds.more k e
-            → IsOneOf from told (n + 1) e
-        each k e (inl h) =
-            let o : IsOneOf from told n e = first.adds.each k e h in
-            record { from_is = o.from_is; place = o.place; successor = o.successor; first = (let f = o.first in omega arith); is = o.is; label_is = o.label_is }
-        each k e (inr h) = of_next e (next.adds.each h.place e h.is)
+    met_anew : AreFound after IsKey cmp start old.edges old.keys → IsFound after start old.edges from m → IsAnew cmp from s mid new
+        → AreMet (suc n) old new
+    met_anew first here anew =
+        let edge : Edge Label = record { from = from; label = s.label } in
+        let grown : AreFound after IsKey cmp start ((old.edges ++ before.more) ++ edge ∷ []) new.keys =
+        found_on after IsKey cmp start (old.edges ++ before.more) mid.keys new.keys from m s before.found
+        (found_front after start old.edges before.more from m first.tree here) (each n s is) anew.unseen anew.keys in
+        record {
+          more = before.more ++ edge ∷ [];
+          is = anew.is
+              ∙ (ap (λ (p : Progress Label Key Note). record p { edges = p.edges ++ edge ∷ []; keys = new.keys }) before.is
+              ∙ ap (λ (es : List (Edge Label)). record old { edges = es; keys = new.keys }) (append_assoc old.edges before.more (edge ∷ [])));
+          found = subst (λ (es : List (Edge Label)). AreFound after IsKey cmp start es new.keys) (append_assoc old.edges before.more (edge ∷ [])) grown;
+          from_is = λ k e h. from_is edge refl k e (front_or_behind before.more (edge ∷ []) k e h);
+          there = there_too (λ q h. anew.keys q ∙ stays_true _ (has cmp mid.keys q) h) anew.there;
+        }
+      where
+        last : (edge e : Edge Label) → edge.from ≡ from → (i : ℕ) → slice_get (edge ∷ []) i ≡ Some e → e.from ≡ from
+        last edge e is zero at = let same : edge ≡ e = cc in ap (λ (x : Edge Label). x.from) (sym same) ∙ is
+        last edge e is (suc i) at = absurd (no_element e at)
 
-        at_most : (i : ℕ) → i < n + 1 → (i < n) ⊎ (i ≡ n)
-        at_most i h = grind arith
+        from_is : (edge : Edge Label) → edge.from ≡ from → (k : ℕ) (e : Edge Label)
+            → (slice_get before.more k ≡ Some e) ⊎ IsBehind before.more (edge ∷ []) k e → e.from ≡ from
+        from_is edge is k e (inl h) = before.from_is k e h
+        from_is edge is k e (inr b) = last edge e is b.place b.is
 
-        there : (i : ℕ) (t : Successor Label Key) → slice_get told i ≡ Some t → (i < n) ⊎ (i ≡ n) → contains cmp c.seen t.key ≡ true
-        there i t h (inl less) = next.kept t.key (first.there i t less h)
-        there i t h (inr same) =
-            let one : s ≡ t = cc (is, h, same) in
-            ap (λ (x : Successor Label Key). contains cmp c.seen x.key) (sym one) ∙ next.there 0 s (omega arith) refl
+  pub met : (n : ℕ) (old new : Progress Label Key Note) → AreFound after IsKey cmp start old.edges old.keys
+      → IsFound after start old.edges from m → MeetsInTurn cmp from told n old new → AreMet n old new
+  met zero old new first here same = subst (AreMet zero old) (sym same) (met_none old first)
+  met (suc n) old new first here turn = go (met n old turn.0 first here turn.1.1.1.0) turn.1.1.1.1
+    where
+      go : AreMet n old turn.0 → Meets cmp from turn.1.0 turn.0 new → AreMet (suc n) old new
+      go before (inl known) = met_known n turn.1.0 turn.1.1.0 old turn.0 new before known
+      go before (inr anew) = met_anew n turn.1.0 turn.1.1.0 old turn.0 new before first here anew
 
-        old_added : (q : Key) → (contains cmp a.seen q ≡ true) ⊎ IsAdded cmp told n first.adds.more q
-            → (contains cmp a.seen q ≡ true) ⊎ IsAdded cmp told (n + 1) (first.adds.more ++ next.adds.more) q
-        old_added q (inl h) = inl h
-        old_added q (inr d) = inr (record {
-          place = d.place;
-          edge = d.edge;
-          is = slice_get-front first.adds.more next.adds.more d.place (slice_get_within first.adds.more d.place d.edge d.is) ∙ d.is;
-          told_place = d.told_place;
-          successor = d.successor;
-          first = (let f = d.first in omega arith);
-          told_is = d.told_is;
-          label_is = d.label_is;
-          equal = d.equal;
-        })
+-- ---- what stays as it was
 
-        same_successor : (q : Key) (d : IsAdded cmp (s ∷ []) 1 next.adds.more q) → s ≡ d.successor
-        same_successor q d = go d.told_place d.first d.told_is
-          where
-            go : (i : ℕ) → i < 1 → slice_get (s ∷ []) i ≡ Some d.successor → s ≡ d.successor
-            go zero within h = cc
-            go (suc i) within h = absurd (omega arith)
+-- a search after it is as before, but for what was found and what waits
+pub record GoesOn {Label Key Note : Type 0} (old new : Progress Label Key Note) : Type 0 where
+  pub strategy : new.strategy ≡ old.strategy
+  pub notes : new.notes ≡ old.notes
+  pub more : List (Edge Label)
+  pub edges : new.edges ≡ old.edges ++ more
 
-        anew : (q : Key) → (contains cmp b.seen q ≡ true) ⊎ IsAdded cmp (s ∷ []) 1 next.adds.more q
-            → (contains cmp a.seen q ≡ true) ⊎ IsAdded cmp told (n + 1) (first.adds.more ++ next.adds.more) q
-        anew q (inl h) = old_added q (first.anew q h)
-        anew q (inr d) =
-            let same : s ≡ d.successor = same_successor q d in
-            inr (record {
-              place = length first.adds.more + d.place;
-              edge = d.edge;
-              is = slice_get-behind first.adds.more next.adds.more d.place ∙ d.is;
-              told_place = n;
-              successor = s;
-              first = omega arith;
-              told_is = is;
-              label_is = ap (λ (x : Successor Label Key). x.label) same ∙ d.label_is;
-              equal = ap (λ (x : Successor Label Key). cmp x.key q) same ∙ d.equal;
-            })
+module _ {Label Key Note : Type 0} where
+  pub goes_nowhere : (old new : Progress Label Key Note) → new ≡ old → GoesOn old new
+  goes_nowhere old new same = record {
+    strategy = ap (λ (p : Progress Label Key Note). p.strategy) same;
+    notes = ap (λ (p : Progress Label Key Note). p.notes) same;
+    more = [];
+    edges = ap (λ (p : Progress Label Key Note). p.edges) same ∙ sym (append-nil old.edges);
+  }
+
+  pub goes_further : (old mid new : Progress Label Key Note) → GoesOn old mid → GoesOn mid new → GoesOn old new
+  goes_further old mid new a b = record {
+    strategy = b.strategy ∙ a.strategy;
+    notes = b.notes ∙ a.notes;
+    more = a.more ++ b.more;
+    edges = b.edges ∙ (ap (λ (es : List (Edge Label)). es ++ b.more) a.edges ∙ append_assoc old.edges a.more b.more);
+  }
+
+module _ {Label Key Note : Type 0} (cmp : Key → Key → Ordering) (from : ℕ) (s : Successor Label Key) (old new : Progress Label Key Note) where
+  pub meets_waiting : Meets cmp from s old new → new.waiting ≡ old.waiting
+  meets_waiting (inl known) = ap (λ (p : Progress Label Key Note). p.waiting) known.is
+  meets_waiting (inr anew) = ap (λ (p : Progress Label Key Note). p.waiting) anew.is
+
+  pub meets_goes : Meets cmp from s old new → GoesOn old new
+  meets_goes (inl known) = goes_nowhere old new known.is
+  meets_goes (inr anew) = record {
+    strategy = ap (λ (p : Progress Label Key Note). p.strategy) anew.is;
+    notes = ap (λ (p : Progress Label Key Note). p.notes) anew.is;
+    more = (record { from = from; label = s.label }) ∷ [];
+    edges = ap (λ (p : Progress Label Key Note). p.edges) anew.is;
+  }
+
+module _ {Label Key Note : Type 0} where
+  pub in_turn_goes : (cmp : Key → Key → Ordering) (from : ℕ) (told : List (Successor Label Key)) (n : ℕ) (old new : Progress Label Key Note)
+      → MeetsInTurn cmp from told n old new → GoesOn old new
+  in_turn_goes cmp from told zero old new same = goes_nowhere old new same
+  in_turn_goes cmp from told (suc n) old new turn =
+      goes_further old turn.0 new (in_turn_goes cmp from told n old turn.0 turn.1.1.1.0) (meets_goes cmp from turn.1.0 turn.0 new turn.1.1.1.1)

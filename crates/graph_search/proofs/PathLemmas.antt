@@ -7,7 +7,7 @@ use Rattle.std.proofs.Common.{append_assoc}
 use Rattle.std.proofs.lemmas.List.{length-append, reverse-append}
 use Rattle.graph_search.proofs.ListLemmas.{element_at, slice_get-front}
 use Rattle.graph_search.specs.declared.found.Edge.{Edge}
-use Rattle.graph_search.specs.Paths.{IsInOrder, IsTree, last_labels, labels_to}
+use Rattle.graph_search.specs.Paths.{IsBreadthFirst, IsTree, last_labels, labels_to}
 
 module _ {Label : Type 0} where
   -- the label of the edge after the labels to where it comes from
@@ -62,7 +62,7 @@ module _ {Label : Type 0} where
   labels_to-start edges = refl
 
   -- the paths of later nodes are no shorter
-  module _ (edges : List (Edge Label)) (tree : IsTree edges) (in_order : IsInOrder edges) where
+  module _ (edges : List (Edge Label)) (tree : IsTree edges) (in_order : IsBreadthFirst edges) where
     by_depth : (most i j : ℕ) → j ≤ most → i ≤ j → j ≤ length edges → length (labels_to edges i) ≤ length (labels_to edges j)
     by_depth most zero j few less within = rw labels_to-start (omega arith)
     by_depth most (suc k) zero few less within = absurd (omega arith)

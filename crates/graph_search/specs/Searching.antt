@@ -1,97 +1,117 @@
 -- What a search keeps on its way.
-use Rattle.std.specs.Prelude.{◌≡◌, ◌≤◌, ◌<◌, ◌⊎◌, ℕ, zero, suc, false, true, List, [], ◌∷◌, ◌++◌, length, slice_get, Option, Some}
+use Rattle.std.specs.Prelude.{◌≡◌, ◌≤◌, ◌<◌, ◌+◌, ◌⊎◌, ℕ, zero, suc, Bool, false, true, cond, List, [], ◌∷◌, ◌++◌, drop, length, slice_get, Option, Some}
 use Rattle.std.specs.declared.cmp.Ordering.{Ordering}
 use Rattle.std.specs.declared.cmp.Ordering.TheVariants.{Equal}
-use Rattle.std.specs.BTreeSet.{BTreeSet, contains}
+use Rattle.std.specs.BTreeMap.{is_at}
+use Rattle.std.specs.List.{list_any}
+use Rattle.graph_search.specs.declared.found.Cut.{Cut}
+use Rattle.graph_search.specs.declared.found.Cut.TheVariants.{Memory, Nodes, Stopped}
 use Rattle.graph_search.specs.declared.found.Edge.{Edge}
-use Rattle.graph_search.specs.declared.meeting.Search.{Search}
+use Rattle.graph_search.specs.declared.found.Strategy.{Strategy}
+use Rattle.graph_search.specs.declared.found.Strategy.TheVariants.{Breadth, Depth}
+use Rattle.graph_search.specs.declared.search.Search.{Search}
+use Rattle.graph_search.specs.declared.search.Waiting.{Waiting}
 use Rattle.graph_search.specs.declared.space.Successor.{Successor}
-use Rattle.graph_search.specs.declared.expanding.Stop.{Stop}
-use Rattle.graph_search.specs.declared.expanding.Stop.TheVariants.{Cut, Fault}
-use Rattle.graph_search.specs.Told.{IsFound, KeysAgree, Tells, TellsOnce}
+use Rattle.graph_search.specs.Paths.{IsOnWay}
+use Rattle.graph_search.specs.Told.{IsFound, KeysAgree}
 
--- a fault that stops a search has its cause
-abbrev pub StopHasCause : {F : Type 0} → (F → Type 0) → Stop F → Type 0
-StopHasCause IsFault (Cut why) = Unit {0}
-StopHasCause IsFault (Fault fault) = IsFault fault
+-- what a search has so far: what it found, as in `Found`, the keys of these nodes, and the edges that wait
+pub record Progress (Label Key Note : Type 0) : Type 0 where
+  pub strategy : Strategy
+  pub edges : List (Edge Label)
+  pub notes : List Note
+  pub keys : List Key
+  pub waiting : List (Waiting Label Key)
 
-module _ {Label Key : Type 0} where
-  -- the edge comes from there, and its label is that of one of the first n
-  pub record IsOneOf (from : ℕ) (told : List (Successor Label Key)) (n : ℕ) (edge : Edge Label) : Type 0 where
-    pub from_is : edge.from ≡ from
-    pub place : ℕ
-    pub successor : Successor Label Key
-    pub first : place < n
-    pub is : slice_get told place ≡ Some successor
-    pub label_is : successor.label ≡ edge.label
+abbrev pub progress_of : {Label Key Note : Type 0} → Search Label Key Note → Progress Label Key Note
+progress_of s = record {
+  strategy = s.strategy;
+  edges = s.edges.items;
+  notes = s.notes.items;
+  keys = s.seen.keys;
+  waiting = s.waiting.items;
+}
 
-  -- edges were added, all of the first n
-  pub record Adds (from : ℕ) (told : List (Successor Label Key)) (n : ℕ) (edges after : List (Edge Label)) : Type 0 where
-    pub more : List (Edge Label)
-    pub is : after ≡ edges ++ more
-    pub each : (k : ℕ) (edge : Edge Label) → slice_get more k ≡ Some edge → IsOneOf from told n edge
+-- whether a key is equal to one of these
+abbrev pub has : {Key : Type 0} → (Key → Key → Ordering) → List Key → Key → Bool
+has cmp keys q = list_any (is_at (cmp q)) keys
 
-  -- the key is equal to that of an edge of the first n, and this edge was added
-  pub record IsAdded (cmp : Key → Key → Ordering) (told : List (Successor Label Key)) (n : ℕ) (more : List (Edge Label)) (q : Key)
-      : Type 0 where
-    pub place : ℕ
-    pub edge : Edge Label
-    pub is : slice_get more place ≡ Some edge
-    pub told_place : ℕ
-    pub successor : Successor Label Key
-    pub first : told_place < n
-    pub told_is : slice_get told told_place ≡ Some successor
-    pub label_is : successor.label ≡ edge.label
-    pub equal : cmp successor.key q ≡ Equal
+-- the search is cut for this cause, where these edges were found: never for its caller
+abbrev pub IsCut : {Label : Type 0} → ℕ → List (Edge Label) → Cut → Type 0
+IsCut limit edges Nodes = limit ≤ length edges + 1
+IsCut limit edges Memory = Unit {0}
+IsCut limit edges Stopped = ⊥
 
-module _ {Label Key Note : Type 0} where
-  -- the nodes of the first n edges were met: each has its key among those seen, and what is seen anew are keys of nodes that were added
-  pub record Meets (cmp : Key → Key → Ordering) (from : ℕ) (told : List (Successor Label Key)) (n : ℕ) (old new : Search Label Key Note)
-      : Type 0 where
-    pub adds : Adds from told n old.edges.items new.edges.items
-    pub kept : (q : Key) → contains cmp old.seen q ≡ true → contains cmp new.seen q ≡ true
-    pub there : (i : ℕ) (s : Successor Label Key) → i < n → slice_get told i ≡ Some s → contains cmp new.seen s.key ≡ true
-    pub anew : (q : Key) → contains cmp new.seen q ≡ true
-        → (contains cmp old.seen q ≡ true) ⊎ IsAdded cmp told n adds.more q
-
--- ---- one edge after another
+-- ---- what is done with the edges that leave a node
 
 module _ {Label Key Note : Type 0} (cmp : Key → Key → Ordering) (from : ℕ) where
-  -- the node of an edge was added: its key wasn't seen, and is now
-  pub record IsAnew (s : Successor Label Key) (old new : Search Label Key Note) : Type 0 where
-    pub edges : new.edges.items ≡ old.edges.items ++ (record { from = from; label = s.label }) ∷ []
-    pub unseen : contains cmp old.seen s.key ≡ false
-    pub kept : (q : Key) → contains cmp old.seen q ≡ true → contains cmp new.seen q ≡ true
-    pub seen : (q : Key) → cmp s.key q ≡ Equal → contains cmp new.seen q ≡ true
+  -- the node of an edge was found: its key wasn't seen, and is now
+  pub record IsAnew (s : Successor Label Key) (old new : Progress Label Key Note) : Type 0 where
+    pub unseen : has cmp old.keys s.key ≡ false
+    pub keys : (q : Key) → has cmp new.keys q ≡ cond (is_at (cmp s.key) q) true (has cmp old.keys q)
+    pub there : has cmp new.keys s.key ≡ true
+    pub is : new ≡ record old { edges = old.edges ++ (record { from = from; label = s.label }) ∷ []; keys = new.keys }
 
-  -- its key was seen, and nothing was added
-  pub record IsKnown (old new : Search Label Key Note) : Type 0 where
-    pub edges : new.edges.items ≡ old.edges.items
-    pub kept : (q : Key) → contains cmp old.seen q ≡ true → contains cmp new.seen q ≡ true
+  -- its key was seen, and nothing was done
+  pub record IsKnown (s : Successor Label Key) (old new : Progress Label Key Note) : Type 0 where
+    pub known : has cmp old.keys s.key ≡ true
+    pub is : new ≡ old
 
-  abbrev pub MeetsOne : Successor Label Key → Search Label Key Note → Search Label Key Note → Type 0
-  MeetsOne s old new = IsKnown old new ⊎ IsAnew s old new
+  -- the edge was met
+  abbrev pub Meets : Successor Label Key → Progress Label Key Note → Progress Label Key Note → Type 0
+  Meets s old new = IsKnown s old new ⊎ IsAnew s old new
 
   -- the first n edges were met in turn
-  abbrev pub MeetsInTurn : List (Successor Label Key) → ℕ → Search Label Key Note → Search Label Key Note → Type 0
+  abbrev pub MeetsInTurn : List (Successor Label Key) → ℕ → Progress Label Key Note → Progress Label Key Note → Type 0
   MeetsInTurn told zero old new = new ≡ old
   MeetsInTurn told (suc n) old new =
-      (mid : Search Label Key Note) × ((s : Successor Label Key)
-      × ((slice_get told n ≡ Some s) × (MeetsInTurn told n old mid × MeetsOne s mid new)))
+      (mid : Progress Label Key Note) × ((s : Successor Label Key)
+      × ((slice_get told n ≡ Some s) × (MeetsInTurn told n old mid × Meets s mid new)))
 
-  -- so many of the first n edges were met in turn, and no other was added
-  pub record MeetsSome (told : List (Successor Label Key)) (old : Search Label Key Note) (edges : List (Edge Label)) : Type 0 where
+  -- so many of them were
+  pub record MeetsSome (told : List (Successor Label Key)) (old new : Progress Label Key Note) : Type 0 where
     pub met : ℕ
-    pub there : Search Label Key Note
-    pub in_turn : MeetsInTurn told met old there
-    pub edges_are : edges ≡ there.edges.items
+    pub few : met ≤ length told
+    pub in_turn : MeetsInTurn told met old new
+
+-- the edges of a node as they wait: the first is taken first, and so stands last
+abbrev pub put_off : {Label Key : Type 0} → ℕ → List (Successor Label Key) → List (Waiting Label Key)
+put_off from [] = []
+put_off from (s ∷ told) = put_off from told ++ (record { from = from; edge = s }) ∷ []
+
+module _ {Label Key Note : Type 0} (cmp : Key → Key → Ordering) (from : ℕ) where
+  -- the last of the edges wait
+  pub record PutsOffSome (told : List (Successor Label Key)) (old new : Progress Label Key Note) : Type 0 where
+    pub left : ℕ
+    pub is : new ≡ record old { waiting = old.waiting ++ put_off from (drop left told) }
+
+  -- breadth first, edges are met; depth first, they wait
+  abbrev pub LeavesAll : Strategy → List (Successor Label Key) → Progress Label Key Note → Progress Label Key Note → Type 0
+  LeavesAll Breadth told old new = MeetsInTurn cmp from told (length told) old new
+  LeavesAll Depth told old new = new ≡ record old { waiting = old.waiting ++ put_off from told }
+
+  -- so are some of them
+  abbrev pub LeavesSome : Strategy → List (Successor Label Key) → Progress Label Key Note → Progress Label Key Note → Type 0
+  LeavesSome Breadth told old new = MeetsSome cmp from told old new
+  LeavesSome Depth told old new = PutsOffSome told old new
+
+-- the last edge that waits is met, and waits no longer
+pub record Takes {Label Key Note : Type 0} (cmp : Key → Key → Ordering) (old new : Progress Label Key Note) : Type 0 where
+  pub last : Waiting Label Key
+  pub others : List (Waiting Label Key)
+  pub waited : old.waiting ≡ others ++ last ∷ []
+  pub mid : Progress Label Key Note
+  pub meets : Meets cmp last.from last.edge old mid
+  pub is : new ≡ record mid { waiting = others }
+
+-- ---- what a search knows
 
 module _ {Node Label Key : Type 0} (after : Node → Label → Option Node) (IsKey : Node → Key → Type 0) (cmp : Key → Key → Ordering)
     (start : Node) where
-  -- no node is told twice, and all keys of nodes that are told are seen
-  pub record AreToldOnce (edges : List (Edge Label)) (keys : BTreeSet Key) : Type 0 where
-    pub once : TellsOnce after start edges
-    pub all_seen : (i : ℕ) (node : Node) (key : Key) → IsFound after start edges i node → IsKey node key → contains cmp keys key ≡ true
+  -- all keys of nodes that are told are seen
+  abbrev pub AreSeen : List (Edge Label) → List Key → Type 0
+  AreSeen edges keys =
+      (i : ℕ) (node : Node) (key : Key) → IsFound after start edges i node → IsKey node key → has cmp keys key ≡ true
 
   -- a node that was found has a key to which this one is equal
   pub record IsKeyFound (edges : List (Edge Label)) (q : Key) : Type 0 where
@@ -102,25 +122,50 @@ module _ {Node Label Key : Type 0} (after : Node → Label → Option Node) (IsK
     pub of_node : IsKey node key
     pub equal : cmp key q ≡ Equal
 
-  -- a node was found, from node i or an earlier one, that has a key equal to one of this node
-  pub record IsMetBy (edges : List (Edge Label)) (i : ℕ) (next : Node) : Type 0 where
+  -- a node was found that has a key equal to one of this node; breadth first, from node i or an earlier one
+  pub record IsMetBy (strategy : Strategy) (edges : List (Edge Label)) (i : ℕ) (next : Node) : Type 0 where
     pub found_key : Key
     pub found : IsKeyFound edges found_key
-    pub by_then : (k : ℕ) (edge : Edge Label) → found.number ≡ suc k → slice_get edges k ≡ Some edge → edge.from ≤ i
+    pub by_then : strategy ≡ Breadth → (k : ℕ) (edge : Edge Label) → found.number ≡ suc k → slice_get edges k ≡ Some edge → edge.from ≤ i
     pub of_next : IsKey next found_key
 
-module _ {Node Label Key Note : Type 0} (after : Node → Label → Option Node) (IsKey : Node → Key → Type 0)
-    (IsNote : Node → Note → Type 0) (cmp : Key → Key → Ordering) (start : Node) where
-  pub record SearchedAt (edges : List (Edge Label)) (notes : List Note) (keys : BTreeSet Key) : Type 0 where
-    pub tells : Tells after IsNote start edges notes
-    -- only keys of nodes that were found are seen
-    pub seen : (q : Key) → contains cmp keys q ≡ true → IsKeyFound after IsKey cmp start edges q
-    -- the edges of the first nodes were followed
-    pub followed : (i : ℕ) (node : Node) (label : Label) (next : Node) → i < length notes
-        → IsFound after start edges i node → after node label ≡ Some next → IsMetBy after IsKey cmp start edges i next
-    -- edges come from nodes whose edges were followed
-    pub before : (k : ℕ) (e : Edge Label) → slice_get edges k ≡ Some e → e.from < length notes
-    pub once : KeysAgree IsKey cmp → AreToldOnce after IsKey cmp start edges keys
+  -- an edge that waits has a key of this node
+  pub record IsAwaited (waiting : List (Waiting Label Key)) (next : Node) : Type 0 where
+    pub place : ℕ
+    pub w : Waiting Label Key
+    pub is : slice_get waiting place ≡ Some w
+    pub of_next : IsKey next w.edge.key
 
-  abbrev pub Searched : Search Label Key Note → Type 0
-  Searched s = SearchedAt s.edges.items s.notes.items s.seen
+  -- it leaves a node that was found, from which its label leads to a node of its key
+  pub record LeavesFound (edges : List (Edge Label)) (w : Waiting Label Key) : Type 0 where
+    pub node : Node
+    pub is : IsFound after start edges w.from node
+    pub next : Node
+    pub leads : after node w.edge.label ≡ Some next
+    pub is_key : IsKey next w.edge.key
+
+-- the edges that wait leave nodes on the way to the last one, in the order of that way
+pub record AreStacked {Label Key : Type 0} (edges : List (Edge Label)) (waiting : List (Waiting Label Key)) : Type 0 where
+  pub along : (i j : ℕ) (w x : Waiting Label Key) → i ≤ j → slice_get waiting i ≡ Some w → slice_get waiting j ≡ Some x
+      → IsOnWay edges w.from x.from
+  pub to_last : (i : ℕ) (w : Waiting Label Key) → slice_get waiting i ≡ Some w → IsOnWay edges w.from (length edges)
+
+module _ {Node Label Key Note : Type 0} (after : Node → Label → Option Node) (IsKey : Node → Key → Type 0)
+    (cmp : Key → Key → Ordering) (start : Node) where
+  -- what a search knows beside what it tells
+  pub record Keeps (p : Progress Label Key Note) : Type 0 where
+    -- only keys of nodes that were found are seen
+    pub seen : (q : Key) → has cmp p.keys q ≡ true → IsKeyFound after IsKey cmp start p.edges q
+    -- and all are, if all keys of a node are equal
+    pub all_seen : KeysAgree IsKey cmp → AreSeen after IsKey cmp start p.edges p.keys
+    -- each edge of a node that was followed leads to a node that was found, or waits
+    pub followed : (i : ℕ) (node : Node) (label : Label) (next : Node) → i < length p.notes → IsFound after start p.edges i node
+        → after node label ≡ Some next
+        → IsMetBy after IsKey cmp start p.strategy p.edges i next ⊎ IsAwaited after IsKey cmp start p.waiting next
+    -- edges come from nodes that were followed, or from the next one
+    pub before : (k : ℕ) (e : Edge Label) → slice_get p.edges k ≡ Some e → e.from ≤ length p.notes
+    pub waiting : (i : ℕ) (w : Waiting Label Key) → slice_get p.waiting i ≡ Some w → LeavesFound after IsKey cmp start p.edges w
+    -- breadth first none waits; depth first all nodes but the last were followed
+    pub none_waits : p.strategy ≡ Breadth → p.waiting ≡ []
+    pub all_but_last : p.strategy ≡ Depth → length p.edges ≤ length p.notes
+    pub stacked : p.strategy ≡ Depth → AreStacked p.edges p.waiting

@@ -12,11 +12,25 @@ pub struct Edge<L> {
     pub label: L,
 }
 
-/// What ended a search before it had found everything: more nodes than it was to keep, or want of memory.
+/// Which node is followed next.
+#[derive(Clone, Copy, PartialEq, Eq, Debug)]
+pub enum Strategy {
+    /// The first that was found. A node is numbered when an edge to it is met.
+    Breadth,
+    /// That of the first edge of the node followed last; where there is none, of an edge of the last node before it. A node is numbered
+    /// when it is followed.
+    Depth,
+}
+
+/// What ended a search before it had found everything.
 #[derive(Clone, Copy, PartialEq, Eq, Debug)]
 pub enum Cut {
+    /// There are more nodes than it was to keep.
     Nodes,
+    /// Memory ended.
     Memory,
+    /// The caller went no further.
+    Stopped,
 }
 
 /// Whether a search found everything.
@@ -26,10 +40,10 @@ pub enum Extent {
     Cut(Cut),
 }
 
-/// The nodes that a search found, numbered in the order in which it came to them. Node 0 is the start, and node k + 1 is that to which
-/// `edges[k]` leads.
+/// The nodes that a search found, in the order of their numbers. Node 0 is the start, and node k + 1 is that to which `edges[k]` leads.
 #[derive(Drop)]
 pub struct Found<L, N> {
+    pub strategy: Strategy,
     pub edges: Vec<Edge<L>>,
     /// The notes of the first nodes. The edges of the later nodes weren't followed.
     pub notes: Vec<N>,

@@ -1,13 +1,15 @@
-//! Explicit-state search: the nodes that paths of labels lead to from a start are found breadth first, each by one path. What is searched
-//! is a `Space`; `search` says what it found, and whether that is all. Nodes are told apart by keys that the space gives.
+//! Explicit-state search: the nodes that paths of labels lead to from a start are found breadth first or depth first, each by one path.
+//! What is searched is a `Space`. The caller drives the search: `begin` begins it, and `follow` follows one node more or says that it is
+//! whole. What was found so far can be read at any time. Nodes are told apart by keys that the space gives.
 #![tactic(auto)]
 
-mod expanding;
+mod following;
 mod found;
 mod meeting;
-mod searching;
+mod search;
 mod space;
 
-pub use found::{Cut, Edge, Extent, Found, path_to};
-pub use searching::search;
-pub use space::{Followed, Progress, Space, Successor, Unanswered, Watch};
+pub use following::{Turn, begin, follow};
+pub use found::{Cut, Edge, Extent, Found, Strategy, path_to};
+pub use search::Search;
+pub use space::{Followed, Space, Successor, Unanswered};

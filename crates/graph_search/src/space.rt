@@ -1,4 +1,4 @@
-//! What is searched, and who watches.
+//! What is searched.
 
 ghost use Rattle.std.specs.Prelude.{◌≡◌, IfErr, IfOk, Option, Some};
 ghost use Rattle.graph_search.specs.Graph.{LeadsOn, node_by};
@@ -76,18 +76,4 @@ pub trait Space {
             → node_by (after (setting self.old)) (start (setting self.old)) path.now ≡ Some node
             → IsNote (setting self.old) node found.note) }
         ensures fault { IfErr result (HasCause (IsFault (setting self.old))) };
-}
-
-/// How far a search has come.
-#[derive(Clone, Copy)]
-pub struct Progress {
-    /// How many nodes it found.
-    pub nodes: usize,
-    /// Of how many of them it followed the edges.
-    pub expanded: usize,
-}
-
-/// Who is told how far a search has come, after each node.
-pub trait Watch {
-    fn see(&mut self, progress: Progress);
 }

@@ -1,11 +1,9 @@
-use Rattle.std.proofs.Common.{◌≡◌, ◌≤◌, ◌-◌, length}
-use Rattle.graph_search.specs.Searching.{Meets, MeetsInTurn}
+use Rattle.std.proofs.Common.{◌≤◌, ◌-◌, length}
+use Rattle.graph_search.specs.Searching.{MeetsInTurn, progress_of}
 use Rattle.graph_search.proofs.meeting.meet_all.Given as goal
 
 abbrev pub invariant-loop-edge : goal.invariant-loop-edge
 invariant-loop-edge g l = record {
-  notes : l.search.notes.items ≡ l.fn.search.notes.items;
-  meets : Meets g.K.Ord.cmp l.from l.edges l.edge-index l.fn.search l.search;
-  in_turn : MeetsInTurn g.K.Ord.cmp l.from l.edges l.edge-index l.fn.search l.search;
+  in_turn : MeetsInTurn g.K.Ord.cmp l.from l.edges l.edge-index (progress_of l.fn.search) (progress_of l.search);
   within : length l.fn.search.edges.items ≤ l.limit - 1 → length l.search.edges.items ≤ l.limit - 1;
 }
