@@ -1,6 +1,6 @@
 -- What may come next, as it is told.
-use Rattle.std.proofs.Common.{◌≡◌, ◌+◌, ℕ, suc, Bool, true, false, List, [], ◌∷◌, ◌++◌, Option, Some, None, is_some, refl, sym, ap, subst, ◌∙◌, append_assoc, arith}
-use Rattle.std.specs.Prelude.{◌||◌, ◌==◌, length, not, map, slice_get, if◌then◌else◌}
+use Rattle.std.proofs.Common.{◌≡◌, ◌≤◌, ◌+◌, ℕ, zero, suc, Bool, true, false, List, [], ◌∷◌, ◌++◌, Option, Some, None, is_some, refl, sym, ap, subst, ◌∙◌, append_assoc, arith}
+use Rattle.std.specs.Prelude.{◌||◌, ◌==◌, length, not, map, nat_lt, slice_get, if◌then◌else◌}
 use Rattle.std.specs.Option.{option_and_then}
 use Rattle.std.proofs.lemmas.Bool.{ne_eqb}
 use Rattle.std.proofs.lemmas.List.{map-append}
@@ -14,7 +14,6 @@ use Rattle.order_model.specs.Endings.{are_none, is_ending, ready_ids, turns_at}
 use Rattle.order_model.specs.Moves.{Asked, Point, is_at_bound, what_comes}
 use Rattle.order_model.specs.Nodes.{goes_on}
 use Rattle.order_model.specs.declared.choices.Choice.{Choice}
-use Rattle.order_model.specs.declared.choices.Choice.TheVariants.{Comes}
 use Rattle.order_model.specs.Asking.{bound_of}
 use Rattle.order_model.specs.Choosing.{comes_at}
 
@@ -41,23 +40,23 @@ module _ (asked : Asked) (p : Point) (k : ℕ) where
   pub comes_if : (event : Event) → slice_get asked.once k ≡ Some event → p.came k ≡ false → comes_at asked p k ≡ is_some (what_comes event p.state)
   comes_if event is e = ap (λ (b : Bool). comes_in (if b then None else slice_get asked.once k)) e ∙ ap comes_in is
 
--- the next number is listed where its event may come
-pub next_event : (test : ℕ → Bool) (k : ℕ) (before now more : List Choice) → now ≡ before ++ map Comes (listed_below k test)
-    → more ≡ now ++ (if test k then Comes k ∷ [] else []) → more ≡ before ++ map Comes (listed_below (k + 1) test)
+-- the choice of the next number is added where it passes
+pub next_listed : (f : ℕ → Choice) (test : ℕ → Bool) (k : ℕ) (before now more : List Choice) → now ≡ before ++ map f (listed_below k test)
+    → more ≡ now ++ (if test k then f k ∷ [] else []) → more ≡ before ++ map f (listed_below (k + 1) test)
 unfolding listed_below
-next_event test k before now more e is =
+next_listed f test k before now more e is =
     let same : suc k ≡ k + 1 = omega arith in
-    subst (λ n. more ≡ before ++ map Comes (listed_below n test)) same (go (test k) refl)
+    subst (λ n. more ≡ before ++ map f (listed_below n test)) same (go (test k) refl)
   where
-    behind : (b : Bool) → map Comes (listed_below k test) ++ (if b then Comes k ∷ [] else []) ≡ map Comes (listed_below k test ++ (if b then k ∷ [] else []))
-    behind true = sym (map-append Comes (listed_below k test) (k ∷ []))
-    behind false = sym (map-append Comes (listed_below k test) [])
+    behind : (b : Bool) → map f (listed_below k test) ++ (if b then f k ∷ [] else []) ≡ map f (listed_below k test ++ (if b then k ∷ [] else []))
+    behind true = sym (map-append f (listed_below k test) (k ∷ []))
+    behind false = sym (map-append f (listed_below k test) [])
 
-    go : (b : Bool) → test k ≡ b → more ≡ before ++ map Comes (listed_below k test ++ (if test k then k ∷ [] else []))
+    go : (b : Bool) → test k ≡ b → more ≡ before ++ map f (listed_below k test ++ (if test k then k ∷ [] else []))
     go b t =
         is
-        ∙ (ap (λ (xs : List Choice). xs ++ (if test k then Comes k ∷ [] else [])) e
-        ∙ (append_assoc before (map Comes (listed_below k test)) (if test k then Comes k ∷ [] else [])
+        ∙ (ap (λ (xs : List Choice). xs ++ (if test k then f k ∷ [] else [])) e
+        ∙ (append_assoc before (map f (listed_below k test)) (if test k then f k ∷ [] else [])
         ∙ ap (λ (xs : List Choice). before ++ xs) (behind (test k))))
 
 -- ---- none
@@ -76,3 +75,22 @@ pub free_goes : (bound : Option ℕ) (m : Machine) (claimed : Bool) → bound �
     → not claimed ≡ goes_on (bound_of bound) m
 free_goes None m claimed e h = ap not h ∙ not_is (is_some (m.claims TIMER_INTERRUPT))
 free_goes (Some bound) m claimed e h = absurd (none-some bound (sym e))
+
+-- ---- preempted slices
+
+-- the numbers from 1 on, below the end
+abbrev pub numbers : ℕ → List ℕ
+numbers end = listed_below end (nat_lt 0)
+
+pub no_numbers : numbers 1 ≡ []
+unfolding listed_below
+no_numbers = refl
+
+pub numbers_ended : (n end : ℕ) → 1 ≤ n → n ≤ end + 1 → (1 ≤ end → n ≤ end) → end ≤ n → numbers n ≡ numbers end
+unfolding listed_below
+numbers_ended n zero some within ends all = let one : n ≡ 1 = omega (arith, some, within) in ap numbers one
+numbers_ended n (suc end) some within ends all =
+    let first : 1 ≤ suc end = omega arith in
+    let last : n ≤ suc end = ends first in
+    let same : n ≡ suc end = omega (arith, last, all) in
+    ap numbers same

@@ -4,33 +4,29 @@ use Rattle.std.specs.Prelude.{map, slice_get, if◌then◌else◌}
 use Rattle.std.specs.List.{Contains}
 use Rattle.std.specs.Option.{option_and_then, option_map, option_map_or}
 use Rattle.std.proofs.lemmas.Bool.{false≢true}
-use Rattle.std.proofs.lemmas.List.{get_or-map, length-map}
+use Rattle.std.proofs.lemmas.List.{length-map}
 use Rattle.std.proofs.lemmas.List.Elements.{All-get_or, Contains-append_left, Contains-append_right}
 use Rattle.std.proofs.lemmas.Option.{none-some, same_Some, slice_get-get_or, slice_get-map, slice_get_within, get_or_from_slice_get}
 use Rattle.machine_model.specs.Runs.Matched.{Matched}
 use Rattle.machine_model.specs.State.Machine.{Machine, Thread}
 use Rattle.machine_model.specs.State.Order.{is_ready, ready_at}
 use Rattle.order_model.specs.declared.moves.Move.{Move}
-use Rattle.order_model.specs.declared.moves.Move.TheVariants.{Once, Slice}
+use Rattle.order_model.specs.declared.moves.Move.TheVariants.{Once, Preempted, Slice}
 use Rattle.order_model.specs.Endings.{ready_ids, turns_at}
 use Rattle.order_model.specs.Moves.{Asked, Point, is_at_bound, leads, may_come, what_comes}
 use Rattle.order_model.specs.Nodes.{after, goes_on, node_of}
 use Rattle.order_model.proofs.Moving.NodeLemmas.{nodes_lead_alike}
 use Rattle.order_model.specs.declared.choices.Choice.{Choice}
-use Rattle.order_model.specs.declared.choices.Choice.TheVariants.{Comes, Goes}
-use Rattle.order_model.specs.Choosing.{choice_of, choices_at, comes_at, events_at}
+use Rattle.order_model.specs.declared.choices.Choice.TheVariants.{Comes, Goes, Preempts}
+use Rattle.order_model.specs.Choosing.{all_choices_at, choice_of, choices_at, comes_at, events_at, preemptions_at}
 use Rattle.order_model.specs.Edges.{AreEdgesBy, IsEdge}
-use Rattle.order_model.proofs.MoveLemmas.{may_come_there, may_go}
+use Rattle.order_model.proofs.MoveLemmas.{may_come_there, may_go, preempted_may}
+use Rattle.order_model.proofs.PreemptionLemmas.{contains_map, may_turn, preemption_there}
 use Rattle.graph_search.specs.declared.space.Successor.{Successor}
 use Rattle.graph_search.specs.Edges.{AreEdges, HasLabel}
 use Rattle.xk_base.specs.declared.ids.ThreadId.{ThreadId}
 use Rattle.xk_base.proofs.CircleLemmas.{listed_ids-contains}
 use Rattle.xk_base.proofs.CountingLemmas.{listed_below-contains}
-
--- ---- lists
-
-contains_map : {A B : Type 0} (f : A → B) (xs : List A) (x : A) → Contains xs x → Contains (map f xs) (f x)
-contains_map f xs x at = (at.0, rw length-map at.1, get_or-map f xs at.0 x (f x) at.1 ∙ ap f at.2)
 
 -- ---- the choice of a move that may be made is among those at the point
 
@@ -50,55 +46,55 @@ module _ (asked : Asked) (p : Point) (matched : Matched p.state) where
       let listed : Contains (ready_ids p.state) who = listed_ids-contains p.state.processes (ready_at p.state) who known ready in
       subst (λ (b : Bool). Contains (if b then [] else ready_ids p.state) who) (sym left) listed
 
-  pub choice_listed : (move : Move) (next : Point) → leads asked p move ≡ Some next → Contains (choices_at asked p) (choice_of move)
+  pub choice_listed : (move : Move) (next : Point) → leads asked p move ≡ Some next → Contains (all_choices_at asked p) (choice_of move)
   choice_listed (Slice who steps) next is =
       let may = may_go asked p who steps (ap is_some is) in
-      Contains-append_left (map Goes (turns_at asked p.state)) (map Comes (events_at asked p)) (Goes who)
-      (contains_map Goes (turns_at asked p.state) who (turn_listed who may.ready may.left))
+      Contains-append_left (choices_at asked p) (preemptions_at asked p) (Goes who)
+      (Contains-append_left (map Goes (turns_at asked p.state)) (map Comes (events_at asked p)) (Goes who)
+      (contains_map Goes (turns_at asked p.state) who (turn_listed who may.ready may.left)))
+  choice_listed (Preempted who steps) next is =
+      let may = preempted_may asked p who steps (ap is_some is) in
+      Contains-append_right (choices_at asked p) (preemptions_at asked p) (Preempts who steps)
+      (preemption_there asked p who steps may (turn_listed who may.ready (may_turn asked p who steps may)))
   choice_listed (Once number) next is =
       let may = may_come_there asked p number (ap is_some is) in
       let within : number < length asked.once = slice_get_within asked.once number may.event may.its in
       let at : may_come asked number p ≡ Some may.event =
       ap (λ (b : Bool). if b then None else slice_get asked.once number) may.free ∙ may.its in
       let comes : comes_at asked p number ≡ true = ap (λ o. is_some (option_and_then (λ event. what_comes event p.state) o)) at ∙ may.comes in
-      Contains-append_right (map Goes (turns_at asked p.state)) (map Comes (events_at asked p)) (Comes number)
-      (contains_map Comes (events_at asked p) number (listed_below-contains (length asked.once) number (comes_at asked p) within comes))
+      Contains-append_left (choices_at asked p) (preemptions_at asked p) (Comes number)
+      (Contains-append_right (map Goes (turns_at asked p.state)) (map Comes (events_at asked p)) (Comes number)
+      (contains_map Comes (events_at asked p) number (listed_below-contains (length asked.once) number (comes_at asked p) within comes)))
 
 -- ---- moves of one choice that may be made at one point are the same
 
 one_move : (asked : Asked) (p : Point) (one other : Move) (next last : Point) → leads asked p one ≡ Some next → leads asked p other ≡ Some last
     → choice_of one ≡ choice_of other → one ≡ other
 one_move asked p (Slice who steps) (Slice other more) next last is also same =
-    let id : who ≡ other = ap (λ (c : Choice). thread_in c who) same in
+    let id : who ≡ other = (let e : Goes who ≡ Goes other = same in cc) in
     let at : leads asked p (Slice who more) ≡ Some last = ap (λ w. leads asked p (Slice w more)) id ∙ also in
     let first = may_go asked p who steps (ap is_some is) in
     let second = may_go asked p who more (ap is_some at) in
     ap (λ n. Slice who n) (sym first.done ∙ second.done) ∙ ap (λ w. Slice w more) id
-  where
-    thread_in : Choice → ThreadId → ThreadId
-    thread_in (Goes who) d = who
-    thread_in (Comes number) d = d
-one_move asked p (Slice who steps) (Once number) next last is also same = absurd (false≢true (sym (ap goes same)))
-  where
-    goes : Choice → Bool
-    goes (Goes who) = true
-    goes (Comes number) = false
-one_move asked p (Once number) (Slice who steps) next last is also same = absurd (false≢true (ap goes same))
-  where
-    goes : Choice → Bool
-    goes (Goes who) = true
-    goes (Comes number) = false
-one_move asked p (Once number) (Once other) next last is also same = ap (λ n. Once n) (ap (λ (c : Choice). number_in c number) same)
-  where
-    number_in : Choice → ℕ → ℕ
-    number_in (Goes who) d = d
-    number_in (Comes number) d = number
+one_move asked p (Preempted who steps) (Preempted other more) next last is also same =
+    let e : Preempts who steps ≡ Preempts other more = same in cc
+one_move asked p (Once number) (Once other) next last is also same = let e : Comes number ≡ Comes other = same in cc
+one_move asked p (Slice who steps) (Preempted other more) next last is also same =
+    absurd (let e : Goes who ≡ Preempts other more = same in cc)
+one_move asked p (Slice who steps) (Once number) next last is also same = absurd (let e : Goes who ≡ Comes number = same in cc)
+one_move asked p (Preempted who steps) (Slice other more) next last is also same =
+    absurd (let e : Preempts who steps ≡ Goes other = same in cc)
+one_move asked p (Preempted who steps) (Once number) next last is also same =
+    absurd (let e : Preempts who steps ≡ Comes number = same in cc)
+one_move asked p (Once number) (Slice who steps) next last is also same = absurd (let e : Comes number ≡ Goes who = same in cc)
+one_move asked p (Once number) (Preempted who steps) next last is also same =
+    absurd (let e : Comes number ≡ Preempts who steps = same in cc)
 
 -- ---- all edges
 
 module _ {Key : Type 0} (IsKey : Point → Key → Type 0) (asked : Asked) (p : Point) (matched : Matched p.state)
     (goes : goes_on asked.bound p.state ≡ true) (edges : List (Successor Move Key))
-    (by : AreEdgesBy IsKey asked p (choices_at asked p) edges) where
+    (by : AreEdgesBy IsKey asked p (all_choices_at asked p) edges) where
   abbrev choice_in : Successor Move Key → Choice
   choice_in edge = choice_of edge.label
 

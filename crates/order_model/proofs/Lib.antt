@@ -7,5 +7,6 @@ pub mod InterleavingLemmas
 pub mod MoveLemmas
 pub mod Moving
 pub mod OrderLemmas
+pub mod PreemptionLemmas
 pub mod SliceLemmas
 mod TurnLemmas

@@ -1,3 +1,4 @@
+pub mod CountLemmas
 pub mod EventLemmas
 pub mod NodeLemmas
 pub mod PathLemmas

@@ -1,5 +1,5 @@
 -- One slice.
-use Rattle.std.proofs.Common.{◌≡◌, ◌≢◌, ◌+◌, ◌-◌, ◌≤◌, ℕ, zero, suc, Bool, true, false, List, [], ◌∷◌, is_some, refl, ap, ◌∙◌, arith, append-nil}
+use Rattle.std.proofs.Common.{◌≡◌, ◌≢◌, ◌+◌, ◌-◌, ◌≤◌, ◌<◌, ℕ, zero, suc, Bool, true, false, List, [], ◌∷◌, is_some, refl, ap, ◌∙◌, arith, append-nil}
 use Rattle.std.specs.Prelude.{if◌then◌else◌}
 use Rattle.xk_base.specs.declared.events.Event.TheVariants.{Tick, Pick}
 use Rattle.xk_base.specs.declared.ids.ThreadId.{ThreadId}
@@ -78,6 +78,68 @@ slice_counts quantum who m =
     let at : Machine = (picked who m).machine in
     let steps : at.steps ≡ m.steps = pick_steps who m in
     turn_steps (steps_up_to quantum at).machine ∙ (counted_steps quantum at ∙ ap (λ (n : ℕ). n + (steps_up_to quantum at).done) steps)
+
+-- there are no more than the quantum
+most_done : (most : ℕ) (m : Machine) → (steps_up_to most m).done ≤ most
+unfolding steps_up_to
+most_done zero m = omega arith
+most_done (suc most) m = by_actor (most_done most (step m).machine) (is_some (actor m))
+  where
+    later : Slice
+    later = steps_up_to most (step m).machine
+
+    by_records : later.done ≤ most → (records : List Rec) → (last_or records (step m).machine later).done ≤ suc most
+    by_records rest [] = omega (arith, rest)
+    by_records rest (first ∷ records) = omega arith
+
+    by_actor : later.done ≤ most → (b : Bool)
+        → (if b then last_or (step m).records (step m).machine later else no_step m).done ≤ suc most
+    by_actor rest false = omega arith
+    by_actor rest true = by_records rest (step m).records
+
+pub slice_at_most : (quantum : ℕ) (who : ThreadId) (m : Machine) → (slice quantum who m).done ≤ quantum
+unfolding slice
+slice_at_most quantum who m = most_done quantum (picked who m).machine
+
+-- ---- the first steps of a slice
+
+-- so many steps were done, and none left a record
+pub record IsQuiet (steps : ℕ) (s : Slice) : Type 0 where
+  pub done : s.done ≡ steps
+  pub records : s.records ≡ []
+
+begins : (few most : ℕ) (m : Machine) → few < (steps_up_to most m).done → IsQuiet few (steps_up_to few m)
+unfolding steps_up_to
+begins zero most m less = record { done = refl; records = refl }
+begins (suc few) zero m less = absurd (omega (arith, less))
+begins (suc few) (suc most) m less = by_actor (λ h. begins few most (step m).machine h) (is_some (actor m)) less
+  where
+    whole : Slice
+    whole = steps_up_to most (step m).machine
+
+    part : Slice
+    part = steps_up_to few (step m).machine
+
+    by_records : (few < whole.done → IsQuiet few part) → (records : List Rec) → suc few < (last_or records (step m).machine whole).done
+        → IsQuiet (suc few) (last_or records (step m).machine part)
+    by_records rest [] fewer =
+        let quiet = rest (omega (arith, fewer)) in
+        let done : part.done ≡ few = quiet.done in
+        record { done = omega (arith, done); records = quiet.records }
+    by_records rest (first ∷ records) fewer = absurd (omega (arith, fewer))
+
+    by_actor : (few < whole.done → IsQuiet few part) → (b : Bool)
+        → suc few < (if b then last_or (step m).records (step m).machine whole else no_step m).done
+        → IsQuiet (suc few) (if b then last_or (step m).records (step m).machine part else no_step m)
+    by_actor rest false fewer = absurd (omega (arith, fewer))
+    by_actor rest true fewer = by_records rest (step m).records fewer
+
+-- fewer steps than a slice has leave no record
+pub slice_begins : (steps quantum : ℕ) (who : ThreadId) (m : Machine) → steps < (slice quantum who m).done → IsQuiet steps (slice steps who m)
+unfolding slice
+slice_begins steps quantum who m less = begins steps quantum (picked who m).machine less
+
+-- ---- its events
 
 -- a pick has no record
 picked_first : (who : ThreadId) (m : Machine) (next : Machine → History) → followed_by (reached (picked who m)) next ≡ next (picked who m).machine

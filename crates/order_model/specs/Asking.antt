@@ -9,7 +9,13 @@ bound_of (Some bound) = UpTo bound
 
 -- the orders that are asked for
 abbrev pub asked_of : Orders → Asked
-asked_of orders = record { quantum = orders.quantum; bound = bound_of orders.bound; once = orders.once.items; exits = orders.exits }
+asked_of orders = record {
+  quantum = orders.quantum;
+  bound = bound_of orders.bound;
+  once = orders.once.items;
+  exits = orders.exits;
+  preemptions = orders.preemptions;
+}
 
 -- which of the events came
 abbrev pub came_of : List Bool → ℕ → Bool

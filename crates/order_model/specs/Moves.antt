@@ -1,6 +1,6 @@
--- Moves of an order: a slice of a Ready thread, or an event that may come once. What they make of a state with what came before it,
--- and the events that play them.
-use Rattle.std.specs.Prelude.{ℕ, ◌-◌, ◌==◌, ◌&&◌, min, nat_eq, nat_lt, Bool, true, false, not, List, [], ◌∷◌, ◌++◌, slice_get, if◌then◌else◌, Option, Some, None}
+-- Moves of an order: a slice of a Ready thread, such a slice that is preempted, or an event that may come once. What they make of a
+-- state with what came before it, and the events that play them.
+use Rattle.std.specs.Prelude.{ℕ, ◌+◌, ◌-◌, ◌==◌, ◌&&◌, min, nat_eq, nat_lt, Bool, true, false, not, List, [], ◌∷◌, ◌++◌, slice_get, if◌then◌else◌, Option, Some, None}
 use Rattle.std.specs.List.{flat_map}
 use Rattle.std.specs.Option.{option_and_then, option_map, option_map_or}
 use Rattle.xk_base.specs.declared.events.Event.{Event}
@@ -18,27 +18,30 @@ use Rattle.order_model.specs.declared.exits.Exit.{Exit}
 use Rattle.order_model.specs.Exits.{exits_on, kept_ends}
 use Rattle.order_model.specs.Slices.{Slice as SliceOf, slice, turned}
 use Rattle.order_model.specs.declared.moves.Move.{Move}
-use Rattle.order_model.specs.declared.moves.Move.TheVariants.{Once, Slice}
+use Rattle.order_model.specs.declared.moves.Move.TheVariants.{Once, Preempted, Slice}
 
 -- Whether an order has a bound of steps. It needs one where somebody claims the timer's interrupt.
 pub data Bound : Type 0 where
   Unbounded : Bound
   UpTo : ℕ → Bound
 
--- the orders that are asked for: how many steps a slice has at most, their bound, the events that may come, each once, and whether it is
--- kept what processes end with
+-- the orders that are asked for: how many steps a slice has at most, their bound, the events that may come, each once, whether it is
+-- kept what processes end with, and how many of their slices are preempted at most
 pub record Asked : Type 0 where
   pub quantum : ℕ
   pub bound : Bound
   pub once : List Event
   pub exits : Bool
+  pub preemptions : ℕ
 
--- a state, the bytes that went to the console before it, which of the events came, and by pid what processes ended with
+-- a state, the bytes that went to the console before it, which of the events came, by pid what processes ended with, and how many slices
+-- were preempted
 pub record Point : Type 0 where
   pub state : Machine
   pub console : List ℕ
   pub came : ℕ → Bool
   pub exits : ℕ → Option Exit
+  pub preempted : ℕ
 
 -- ---- the console
 
@@ -80,6 +83,16 @@ slice_at asked who m = slice (most_steps asked m) who m
 abbrev pub is_slice : Asked → ThreadId → ℕ → Machine → Bool
 is_slice asked who steps m = ready_at m who && (not (is_at_bound asked.bound m) && ((slice_at asked who m).done == steps))
 
+-- one more slice may be preempted
+abbrev pub may_preempt : Asked → Point → Bool
+may_preempt asked p = nat_lt p.preempted asked.preemptions
+
+-- The slice of this thread may be preempted after so many steps: it has a first one, and it has more. So these leave no record, and they
+-- are the slice with this quantum.
+abbrev pub is_preempted : Asked → ThreadId → ℕ → Point → Bool
+is_preempted asked who steps p =
+    ready_at p.state who && (may_preempt asked p && (nat_lt 0 steps && nat_lt steps (slice_at asked who p.state).done))
+
 -- ---- events
 
 -- what the event makes of a state; ticks and picks don't come by themselves
@@ -106,9 +119,15 @@ behind asked p done = record p {
 abbrev pub with_come : ℕ → Point → Point
 with_come k p = record p { came = put_at nat_eq p.came k true }
 
+abbrev pub with_preemption : Point → Point
+with_preemption p = record p { preempted = p.preempted + 1 }
+
 -- where a move leads to from a point, where it may be made there
 unfoldable pub leads : Asked → Point → Move → Option Point
-leads asked p (Slice who steps) = if is_slice asked who steps p.state then Some (behind asked p (turned (slice_at asked who p.state))) else None
+leads asked p (Slice who steps) =
+    if is_slice asked who steps p.state then Some (behind asked p (turned (slice_at asked who p.state))) else None
+leads asked p (Preempted who steps) =
+    if is_preempted asked who steps p then Some (with_preemption (behind asked p (turned (slice steps who p.state)))) else None
 leads asked p (Once k) =
     option_map (λ done. with_come k (behind asked p done)) (option_and_then (λ event. what_comes event p.state) (may_come asked k p))
 
@@ -120,6 +139,7 @@ leads_by asked p (move ∷ order) = option_and_then (λ next. leads_by asked nex
 -- the events that play a move
 abbrev pub events_of_move : Asked → Move → List Event
 events_of_move asked (Slice who steps) = Pick who.pid who.tid ∷ Tick steps ∷ []
+events_of_move asked (Preempted who steps) = Pick who.pid who.tid ∷ Tick steps ∷ []
 events_of_move asked (Once k) = option_map_or (λ event. event ∷ []) (slice_get asked.once k) []
 
 abbrev pub events_of : Asked → List Move → List Event

@@ -1,5 +1,6 @@
 -- Nodes of a search of orders. A node is what of a point its later moves depend on: the state without its cursor, as each slice begins
 -- with a pick, and without its count of steps where the orders have no bound, as nobody reads it until the timer's interrupt is claimed.
+-- How many slices were preempted stays, as it says whether one more may be.
 use Rattle.std.specs.Prelude.{◌≡◌, Bool, true, false, is_some, Option, None, if◌then◌else◌}
 use Rattle.std.specs.Option.{option_map}
 use Rattle.xk_base.specs.declared.limits.TheConstants.{TIMER_INTERRUPT}

@@ -7,7 +7,7 @@ ghost use Rattle.order_model.specs.Moves.{Asked, Point, what_comes};
 ghost use Rattle.order_model.specs.Nodes.{goes_on};
 ghost use Rattle.order_model.specs.Searches.{note_of as note_of_state};
 ghost use Rattle.order_model.specs.Asking.{asked_of, bound_of, came_of};
-ghost use Rattle.order_model.specs.Choosing.{IsSeen, IsStand, comes_at, events_at};
+ghost use Rattle.order_model.specs.Choosing.{IsSeen, IsStand, comes_at, events_at, preemptions_of};
 ghost use Rattle.snapshot_rows.specs.Machines.{machine_of};
 ghost use Rattle.order_model.specs.declared.choices.Choice.TheVariants.{Comes, Goes};
 ghost use Rattle.xk_base.specs.declared.limits.TheConstants.{PROCESS_LIMIT};
@@ -19,14 +19,15 @@ use snapshot_rows::State;
 use std::alloc::{AllocError, Global};
 use xk_base::{Event, ThreadId};
 
-/// What may come next: a slice of this thread, or the event of this number.
+/// What may come next: a slice of this thread, that slice preempted after so many steps, or the event of this number.
 #[derive(Clone, Copy, Debug, PartialEq, Eq)]
 pub enum Choice {
     Goes(ThreadId),
+    Preempts(ThreadId, u32),
     Comes(u32),
 }
 
-/// What is seen of a node: what may come next, and its note.
+/// What is seen of a node: what may come next, but for preempted slices, and its note.
 #[derive(Drop)]
 pub struct Sight {
     pub choices: Vec<Choice>,
@@ -157,6 +158,20 @@ pub fn see(alloc: Global, orders: &Orders, state: &State, trail: &Trail) -> Resu
         return Err(Unseen::Memory);
     };
     Ok(Sight { choices, note })
+}
+
+/// The choices to preempt the slice of a thread, which has so many steps, are added.
+pub fn add_preemptions(
+    choices: &mut Vec<Choice>,
+    who: ThreadId,
+    steps: u32,
+) -> Result<(), AllocError>
+    ensures { OnOk result (choices.new.items ≡ choices.old.items ++ preemptions_of who steps) }
+{
+    for done in 1..steps {
+        choices.push(Choice::Preempts(who, done))?;
+    }
+    Ok(())
 }
 
 /// The note of a node at which these threads may have a slice.

@@ -12,13 +12,14 @@ mod sights;
 mod slices;
 mod turns;
 
-pub use choices::{Choice, Sight, Unseen, see};
+pub use choices::{Choice, Sight, Unseen, add_preemptions, see};
 pub use exits::{Ended, Exit, exit_in, push_ends};
 pub use failing::{Failing, Waiter, fails, first_failing};
 pub use moves::{Move, Note};
 pub use nodes::{
-    nodes_are_seen_alike, nodes_lead_alike, orders_are_paths, orders_are_played, orders_are_told,
-    paths_are_orders, slice_forgets_the_count, step_forgets_the_count, told_are_orders,
+    few_preemptions_are_allowed, nodes_are_seen_alike, nodes_lead_alike, orders_are_paths,
+    orders_are_played, orders_are_told, paths_are_orders, preemptions_are_counted,
+    slice_forgets_the_count, step_forgets_the_count, told_are_orders,
 };
 pub use orders::{Orders, Trail};
 pub use sights::Sights;

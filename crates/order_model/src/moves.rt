@@ -7,6 +7,8 @@ use xk_base::ThreadId;
 pub enum Move {
     /// A slice of this thread, which has so many steps.
     Slice(ThreadId, u32),
+    /// A slice of this thread that is preempted after so many steps, which are fewer than it has.
+    Preempted(ThreadId, u32),
     /// The event of this number comes, of those that may come once.
     Once(u32),
 }

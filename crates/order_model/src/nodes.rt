@@ -4,7 +4,7 @@
 ghost use Rattle.order_model.specs.Counts.{SliceForgetsCount, StepForgetsCount};
 ghost use Rattle.order_model.specs.Endings.{NodesAreSeenAlike};
 ghost use Rattle.order_model.specs.Nodes.{NodesLeadAlike};
-ghost use Rattle.order_model.specs.Orders.{OrdersArePaths, OrdersArePlayed};
+ghost use Rattle.order_model.specs.Orders.{FewPreemptionsAreAllowed, OrdersArePaths, OrdersArePlayed, PreemptionsAreCounted};
 ghost use Rattle.order_model.specs.Searches.{OrdersAreTold, PathsAreOrders, ToldAreOrders};
 
 /// **A step forgets the count.** Where nobody has claimed the timer's interrupt, a step from the same state with another count of steps
@@ -31,6 +31,19 @@ pub fn nodes_lead_alike()
 #[tactic(auto, using(crate::proofs::Moving::PlayLemmas::orders_are_played))]
 pub fn orders_are_played()
     ensures { OrdersArePlayed }
+{}
+
+/// **Preemptions are counted.** An order preempts as many slices as its point tells, and no more than are asked for.
+#[tactic(auto, using(crate::proofs::Moving::CountLemmas::preemptions_are_counted))]
+pub fn preemptions_are_counted()
+    ensures { PreemptionsAreCounted }
+{}
+
+/// **Few preemptions are allowed.** An order with no more preempted slices than are asked for is among the orders that are asked for,
+/// if it is among those with any count of them.
+#[tactic(auto, using(crate::proofs::Moving::CountLemmas::few_preemptions_are_allowed))]
+pub fn few_preemptions_are_allowed()
+    ensures { FewPreemptionsAreAllowed }
 {}
 
 /// **Each order is a path of nodes**, and leads from the node of a point to that of the point where it leads.

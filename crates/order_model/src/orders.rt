@@ -2,8 +2,8 @@
 
 ghost use Rattle.std.specs.Prelude.{◌≡◌, [], false, IfOk, length, replicate};
 ghost use Rattle.machine_model.specs.State.Machine.{Machine};
-ghost use Rattle.order_model.specs.Moves.{is_at_bound, most_within};
-ghost use Rattle.order_model.specs.Asking.{bound_of};
+ghost use Rattle.order_model.specs.Moves.{Point, is_at_bound, may_preempt, most_within};
+ghost use Rattle.order_model.specs.Asking.{asked_of, bound_of};
 
 use crate::exits::Ended;
 use std::alloc::{AllocError, Global};
@@ -20,14 +20,18 @@ pub struct Orders {
     pub once: Vec<Event>,
     /// Whether orders differ by what processes end with.
     pub exits: bool,
+    /// How many slices of an order are preempted at most.
+    pub preemptions: u32,
 }
 
-/// What an order leaves beside a state: the bytes that went to the console, which of the events came, and the processes that ended.
+/// What an order leaves beside a state: the bytes that went to the console, which of the events came, the processes that ended, and how
+/// many of its slices were preempted.
 #[derive(Drop)]
 pub struct Trail {
     pub console: Vec<u8>,
     pub came: Vec<bool>,
     pub ends: Vec<Ended>,
+    pub preempted: u32,
 }
 
 impl Orders {
@@ -47,6 +51,13 @@ impl Orders {
     {
         self.bound.is_some_and(|bound| steps >= bound)
     }
+
+    /// Whether one more slice may be preempted, after so many.
+    pub fn may_preempt(&self, preempted: u32) -> bool
+        ensures { (p : Point) → preempted ≡ p.preempted → result ≡ may_preempt (asked_of self.now) p }
+    {
+        preempted < self.preemptions
+    }
 }
 
 impl Trail {
@@ -55,12 +66,14 @@ impl Trail {
         ensures console { IfOk result (λ trail. trail.console.items ≡ []) }
         ensures ends { IfOk result (λ trail. trail.ends.items ≡ []) }
         ensures came { IfOk result (λ trail. trail.came.items ≡ replicate (length orders.now.once.items) false) }
+        ensures preempted { IfOk result (λ trail. trail.preempted ≡ 0) }
     {
         let came = vec![in alloc; false; orders.once.len()]?;
         Ok(Trail {
             console: Vec::new(alloc),
             came,
             ends: Vec::new(alloc),
+            preempted: 0,
         })
     }
 }

@@ -1,5 +1,5 @@
 -- Points of one node have the same moves.
-use Rattle.std.proofs.Common.{◌≡◌, ℕ, ◌+◌, Bool, true, false, List, ◌++◌, Option, Some, None, is_some, refl, sym, ap, ◌∙◌}
+use Rattle.std.proofs.Common.{◌≡◌, ℕ, ◌+◌, Bool, true, false, List, ◌++◌, Option, Some, None, is_some, refl, sym, ap, subst, ◌∙◌}
 use Rattle.std.specs.Bool.{⊤}
 use Rattle.std.specs.Prelude.{◌==◌, ◌&&◌, not, nat_lt, if◌then◌else◌}
 use Rattle.std.specs.Option.{option_and_then, option_map}
@@ -19,10 +19,11 @@ use Rattle.machine_laws.proofs.Histories.LimitLemmas.{irq_steps, kill_steps}
 use Rattle.order_model.specs.Slices.{Slice as SliceOf, slice, turned}
 use Rattle.order_model.proofs.SliceLemmas.{slice_from_any_turn}
 use Rattle.order_model.specs.declared.moves.Move.{Move}
-use Rattle.order_model.specs.declared.moves.Move.TheVariants.{Once, Slice}
-use Rattle.order_model.specs.Counts.{IsUncounted, slice_from, with_count}
+use Rattle.order_model.specs.declared.moves.Move.TheVariants.{Once, Preempted, Slice}
+use Rattle.order_model.specs.Counts.{slice_from, with_count}
 use Rattle.order_model.specs.Exits.{exits_on}
-use Rattle.order_model.specs.Moves.{Asked, Bound, Point, Unbounded, UpTo, behind, leads, may_come, most_within, what_comes, with_come}
+use Rattle.order_model.specs.Moves.{Asked, Bound, Point, Unbounded, UpTo, behind, leads, may_come, may_preempt, most_within, what_comes}
+use Rattle.order_model.specs.Moves.{with_come, with_preemption}
 use Rattle.order_model.specs.Nodes.{NodesLeadAlike, after, goes_on, node_of, set_aside}
 use Rattle.order_model.proofs.Counting.SliceLemmas.{slice_forgets}
 use Rattle.order_model.proofs.Moving.EventLemmas.{IsAside, killed_aside, raised_aside, same_bytes, same_ends, whats_numbered}
@@ -47,9 +48,9 @@ unclaimed : (o : Option Claim) → (if is_some o then false else true) ≡ true 
 unclaimed None e = refl
 unclaimed (Some claim) e = absurd (false≢true e)
 
-module _ (quantum : ℕ) (once : List Event) (exits : Bool) where
+module _ (quantum : ℕ) (once : List Event) (exits : Bool) (preemptions : ℕ) where
   abbrev asks : Bound → Asked
-  asks bound = record { quantum = quantum; bound = bound; once = once; exits = exits }
+  asks bound = record { quantum = quantum; bound = bound; once = once; exits = exits; preemptions = preemptions }
 
   -- what was done leads to one node
   behind_alike : (bound : Bound) (steps : ℕ) (p : Point) (x y : Recorded) → IsAside steps x y → IsCountOf bound steps y.machine
@@ -71,38 +72,84 @@ module _ (quantum : ℕ) (once : List Event) (exits : Bool) where
   if_alike bound true p q e = ap Some e
   if_alike bound false p q e = refl
 
-  abbrev then_leads : Bound → Point → Bool → ℕ → SliceOf → Option Point
-  then_leads bound p free steps s =
-      option_map (node_of (asks bound)) (if free && (s.done == steps) then Some (behind (asks bound) p (turned s)) else None)
+  -- a slice from the state of a node does what it does from that of the point, but for what a node leaves out
+  record IsAlike (bound : Bound) (x y : SliceOf) : Type 0 where
+    steps : ℕ
+    done : x.done ≡ y.done
+    same : IsAside steps (turned x) (turned y)
+    count : IsCountOf bound steps (turned y).machine
 
-  module _ (p : Point) (who : ThreadId) (steps : ℕ) where
-    slice_unbounded : Matched p.state → IsUncounted p.state → (ready : Bool) → ready_at p.state who ≡ ready
-        → option_map (node_of (asks Unbounded)) (if ready && (true && ((slice quantum who (set_aside Unbounded p.state)).done == steps)) then Some (behind (asks Unbounded) (node_of (asks Unbounded) p) (turned (slice quantum who (set_aside Unbounded p.state)))) else None)
-        ≡ option_map (node_of (asks Unbounded)) (if ready && (true && ((slice quantum who p.state).done == steps)) then Some (behind (asks Unbounded) p (turned (slice quantum who p.state))) else None)
-    slice_unbounded h none false e = refl
-    slice_unbounded h none true e =
-        let s = slice quantum who p.state in
-        ap (then_leads Unbounded (node_of (asks Unbounded) p) true steps)
-        (slice_from_any_turn quantum who (id_at 0) (with_count 0 p.state) e ∙ slice_forgets quantum 0 who p.state h none e)
-        ∙ if_alike Unbounded (s.done == steps) (behind (asks Unbounded) (node_of (asks Unbounded) p) (turned (slice_from 0 s))) (behind (asks Unbounded) p (turned s))
-        (behind_alike Unbounded (0 + s.done) p (turned (slice_from 0 s)) (turned s) (turned_aside 0 s) tt)
+  slice_alike : (bound : Bound) (most : ℕ) (who : ThreadId) (m : Machine) → Matched m → goes_on bound m ≡ true → ready_at m who ≡ true
+      → IsAlike bound (slice most who (set_aside bound m)) (slice most who m)
+  slice_alike Unbounded most who m h goes ready =
+      let s = slice most who m in
+      let is : slice most who (set_aside Unbounded m) ≡ slice_from 0 s =
+      slice_from_any_turn most who (id_at 0) (with_count 0 m) ready
+      ∙ slice_forgets most 0 who m h (unclaimed (m.claims TIMER_INTERRUPT) goes) ready in
+      subst (λ (x : SliceOf). IsAlike Unbounded x s) (sym is)
+      (record { steps = 0 + s.done; done = refl; same = turned_aside 0 s; count = tt })
+  slice_alike (UpTo bound) most who m h goes ready =
+      let s = slice most who m in
+      subst (λ (x : SliceOf). IsAlike (UpTo bound) x s) (sym (slice_from_any_turn most who (id_at 0) m ready))
+      (record { steps = (turned s).machine.steps; done = refl; same = record { machine = refl; whats = refl }; count = refl })
 
-    slice_bounded : (bound most : ℕ) (free ready : Bool) → ready_at p.state who ≡ ready
-        → option_map (node_of (asks (UpTo bound))) (if ready && (free && ((slice most who (set_aside (UpTo bound) p.state)).done == steps)) then Some (behind (asks (UpTo bound)) (node_of (asks (UpTo bound)) p) (turned (slice most who (set_aside (UpTo bound) p.state)))) else None)
-        ≡ option_map (node_of (asks (UpTo bound))) (if ready && (free && ((slice most who p.state).done == steps)) then Some (behind (asks (UpTo bound)) p (turned (slice most who p.state))) else None)
-    slice_bounded bound most free false e = refl
-    slice_bounded bound most free true e =
-        let s = slice most who p.state in
-        ap (then_leads (UpTo bound) (node_of (asks (UpTo bound)) p) free steps) (slice_from_any_turn most who (id_at 0) p.state e)
+  module _ (bound : Bound) (p : Point) (steps : ℕ) where
+    abbrev then_leads : Point → Bool → Bool → ℕ → SliceOf → Option Point
+    then_leads q ready free done s =
+        option_map (node_of (asks bound)) (if ready && (free && (done == steps)) then Some (behind (asks bound) q (turned s)) else None)
 
-  slice_leads : (bound : Bound) (p : Point) (who : ThreadId) (steps : ℕ) → Matched p.state → goes_on bound p.state ≡ true
-      → option_map (node_of (asks bound)) (leads (asks bound) (node_of (asks bound) p) (Slice who steps))
-      ≡ option_map (node_of (asks bound)) (leads (asks bound) p (Slice who steps))
-  unfolding leads
-  slice_leads Unbounded p who steps h goes =
-      slice_unbounded p who steps h (unclaimed (p.state.claims TIMER_INTERRUPT) goes) (ready_at p.state who) refl
-  slice_leads (UpTo bound) p who steps h goes =
-      slice_bounded p who steps bound (most_within (UpTo bound) quantum p.state.steps) (not (not (nat_lt p.state.steps bound))) (ready_at p.state who) refl
+    slices_lead : (ready free : Bool) (x y : SliceOf) → (ready ≡ true → IsAlike bound x y)
+        → then_leads (node_of (asks bound) p) ready free x.done x ≡ then_leads p ready free y.done y
+    slices_lead false free x y alike = refl
+    slices_lead true free x y alike =
+        let a = alike refl in
+        ap (λ done. then_leads (node_of (asks bound) p) true free done x) a.done
+        ∙ if_alike bound (free && (y.done == steps)) (behind (asks bound) (node_of (asks bound) p) (turned x)) (behind (asks bound) p (turned y))
+        (behind_alike bound a.steps p (turned x) (turned y) a.same a.count)
+
+    -- .. and preempted ones
+    abbrev then_preempts : Point → Bool → ℕ → SliceOf → Option Point
+    then_preempts q ready done s =
+        option_map (node_of (asks bound))
+        (if ready && (may_preempt (asks bound) p && (nat_lt 0 steps && nat_lt steps done)) then Some (with_preemption (behind (asks bound) q (turned s))) else None)
+
+    preempted_lead : (ready : Bool) (whole_x whole_y x y : SliceOf) → (ready ≡ true → IsAlike bound whole_x whole_y)
+        → (ready ≡ true → IsAlike bound x y)
+        → then_preempts (node_of (asks bound) p) ready whole_x.done x ≡ then_preempts p ready whole_y.done y
+    preempted_lead false whole_x whole_y x y whole_alike alike = refl
+    preempted_lead true whole_x whole_y x y whole_alike alike =
+        let a = alike refl in
+        ap (λ done. then_preempts (node_of (asks bound) p) true done x) (whole_alike refl).done
+        ∙ if_alike bound (may_preempt (asks bound) p && (nat_lt 0 steps && nat_lt steps whole_y.done))
+        (with_preemption (behind (asks bound) (node_of (asks bound) p) (turned x))) (with_preemption (behind (asks bound) p (turned y)))
+        (ap with_preemption (behind_alike bound a.steps p (turned x) (turned y) a.same a.count))
+
+  module _ (p : Point) (who : ThreadId) (steps : ℕ) (h : Matched p.state) where
+    slice_leads : (bound : Bound) → goes_on bound p.state ≡ true
+        → option_map (node_of (asks bound)) (leads (asks bound) (node_of (asks bound) p) (Slice who steps))
+        ≡ option_map (node_of (asks bound)) (leads (asks bound) p (Slice who steps))
+    unfolding leads
+    slice_leads Unbounded goes =
+        slices_lead Unbounded p steps (ready_at p.state who) true (slice quantum who (set_aside Unbounded p.state)) (slice quantum who p.state)
+        (slice_alike Unbounded quantum who p.state h goes)
+    slice_leads (UpTo bound) goes =
+        let most = most_within (UpTo bound) quantum p.state.steps in
+        slices_lead (UpTo bound) p steps (ready_at p.state who) (not (not (nat_lt p.state.steps bound)))
+        (slice most who (set_aside (UpTo bound) p.state)) (slice most who p.state) (slice_alike (UpTo bound) most who p.state h goes)
+
+    preempted_leads_alike : (bound : Bound) → goes_on bound p.state ≡ true
+        → option_map (node_of (asks bound)) (leads (asks bound) (node_of (asks bound) p) (Preempted who steps))
+        ≡ option_map (node_of (asks bound)) (leads (asks bound) p (Preempted who steps))
+    unfolding leads
+    preempted_leads_alike Unbounded goes =
+        let aside = set_aside Unbounded p.state in
+        preempted_lead Unbounded p steps (ready_at p.state who) (slice quantum who aside) (slice quantum who p.state) (slice steps who aside)
+        (slice steps who p.state) (slice_alike Unbounded quantum who p.state h goes) (slice_alike Unbounded steps who p.state h goes)
+    preempted_leads_alike (UpTo bound) goes =
+        let most = most_within (UpTo bound) quantum p.state.steps in
+        let aside = set_aside (UpTo bound) p.state in
+        preempted_lead (UpTo bound) p steps (ready_at p.state who) (slice most who aside) (slice most who p.state) (slice steps who aside)
+        (slice steps who p.state) (slice_alike (UpTo bound) most who p.state h goes) (slice_alike (UpTo bound) steps who p.state h goes)
 
   -- ---- events
 
@@ -153,7 +200,8 @@ module _ (quantum : ℕ) (once : List Event) (exits : Bool) where
   move_leads : (bound : Bound) (p : Point) (move : Move) → Matched p.state → goes_on bound p.state ≡ true
       → option_map (node_of (asks bound)) (leads (asks bound) (node_of (asks bound) p) move)
       ≡ option_map (node_of (asks bound)) (leads (asks bound) p move)
-  move_leads bound p (Slice who steps) h goes = slice_leads bound p who steps h goes
+  move_leads bound p (Slice who steps) h goes = slice_leads p who steps h bound goes
+  move_leads bound p (Preempted who steps) h goes = preempted_leads_alike p who steps h bound goes
   move_leads bound p (Once k) h goes = once_leads bound p k
 
   goes_alike : (bound : Bound) (m : Machine) → goes_on bound m ≡ true → goes_on bound (set_aside bound m) ≡ true
@@ -169,4 +217,4 @@ module _ (quantum : ℕ) (once : List Event) (exits : Bool) where
       ∙ move_leads bound p move h goes
 
 pub nodes_lead_alike : NodesLeadAlike
-nodes_lead_alike asked p move h goes = after_alike asked.quantum asked.once asked.exits asked.bound p move h goes
+nodes_lead_alike asked p move h goes = after_alike asked.quantum asked.once asked.exits asked.preemptions asked.bound p move h goes

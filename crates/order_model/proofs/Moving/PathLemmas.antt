@@ -17,10 +17,11 @@ use Rattle.machine_laws.proofs.Stepping.EveryStepLemmas.{every_cause_keeps, ever
 use Rattle.order_model.specs.Slices.{Slice as SliceOf, last_or, no_step, slice, steps_up_to, turned}
 use Rattle.graph_search.specs.Graph.{node_by}
 use Rattle.order_model.specs.declared.moves.Move.{Move}
-use Rattle.order_model.specs.declared.moves.Move.TheVariants.{Once, Slice}
+use Rattle.order_model.specs.declared.moves.Move.TheVariants.{Once, Preempted, Slice}
 use Rattle.order_model.specs.Moves.{Asked, Point, behind, leads, leads_by, may_come, most_steps, what_comes, with_come}
 use Rattle.order_model.specs.Nodes.{after, node_of}
 use Rattle.order_model.specs.Orders.{GoOn, OrdersArePaths}
+use Rattle.order_model.proofs.MoveLemmas.{preempted_is}
 use Rattle.order_model.proofs.Moving.NodeLemmas.{nodes_lead_alike}
 use Rattle.order_model.proofs.Moving.PlayLemmas.{slice_is}
 
@@ -63,6 +64,8 @@ module _ (asked : Asked) where
   unfolding leads
   move_keeps p next (Slice who steps) h e =
       subst (λ (x : Point). Matched x.state) (slice_is asked 0 p next who steps e).2 (slice_keeps (most_steps asked p.state) who p.state h)
+  move_keeps p next (Preempted who steps) h e =
+      subst (λ (x : Point). Matched x.state) (preempted_is asked p who steps next e).1 (slice_keeps steps who p.state h)
   move_keeps p next (Once k) h e = by_event (may_come asked k p) e
     where
       by_done : (event : Event) (o : Option Recorded) → what_comes event p.state ≡ o

@@ -16,15 +16,16 @@ use Rattle.machine_model.specs.Stepping.Step.{Recorded}
 use Rattle.machine_laws.specs.History.{History, behind as behind_records, followed_by, history, play, reached}
 use Rattle.machine_laws.proofs.Histories.HistoryLemmas.{history_append, history_first, history_none}
 use Rattle.machine_laws.proofs.Histories.LimitLemmas.{irq_steps, kill_steps}
-use Rattle.order_model.specs.Slices.{turned}
-use Rattle.order_model.proofs.SliceLemmas.{slice_counts, slice_plays}
+use Rattle.order_model.specs.Slices.{slice, turned}
+use Rattle.order_model.proofs.SliceLemmas.{slice_begins, slice_counts, slice_plays}
 use Rattle.order_model.specs.declared.moves.Move.{Move}
-use Rattle.order_model.specs.declared.moves.Move.TheVariants.{Once, Slice}
+use Rattle.order_model.specs.declared.moves.Move.TheVariants.{Once, Preempted, Slice}
 use Rattle.order_model.proofs.ExitLemmas.{exits_on-append, exits_on-none, kept_ends-append, kept_ends-none}
 use Rattle.order_model.specs.Exits.{exits_on, kept_ends}
 use Rattle.order_model.specs.Moves.{Asked, Point, behind, byte_of_what, bytes_of, events_of, events_of_move, is_at_bound, is_slice, leads}
 use Rattle.order_model.specs.Moves.{leads_by, most_steps, slice_at, what_comes, with_come}
 use Rattle.order_model.specs.Orders.{OrdersArePlayed}
+use Rattle.order_model.proofs.MoveLemmas.{preempted_is}
 
 -- a test of three parts holds, and so do the parts
 parts : (a b c : Bool) → (a && (b && c)) ≡ true → (a ≡ true) × (c ≡ true)
@@ -62,21 +63,48 @@ module _ (asked : Asked) (limit : ℕ) where
       ap (λ (x : Point). x.state.steps) (sym is.2)
       ∙ (slice_counts (most_steps asked p.state) who p.state ∙ ap (λ k. p.state.steps + k) is.1)
 
+  -- a slice with any quantum
+  slice_events_play : (quantum : ℕ) (p : Point) (who : ThreadId) (steps : ℕ) → ready_at p.state who ≡ true
+      → (slice quantum who p.state).done ≡ steps → p.state.steps + steps ≤ limit
+      → Plays (Pick who.pid who.tid ∷ Tick steps ∷ []) p (behind asked p (turned (slice quantum who p.state)))
+  slice_events_play quantum p who steps ready done within =
+      let s = slice quantum who p.state in
+      let counts : s.done ≡ steps = done in
+      let fits : p.state.steps + s.done ≤ limit = omega (arith, counts, within) in
+      subst (λ k. Plays (Pick who.pid who.tid ∷ Tick k ∷ []) p (behind asked p (turned s))) done (record {
+        records = s.records;
+        is = slice_plays quantum limit who p.state ready fits;
+        console = refl;
+        exits = refl;
+      })
+
   slice_moves : (p next : Point) (who : ThreadId) (steps : ℕ) → leads asked p (Slice who steps) ≡ Some next → next.state.steps ≤ limit
       → Plays (events_of_move asked (Slice who steps)) p next
   slice_moves p next who steps e within =
       let is = slice_is p next who steps e in
-      let s = slice_at asked who p.state in
       let counts : next.state.steps ≡ p.state.steps + steps = slice_steps p next who steps e in
-      let done : s.done ≡ steps = is.1 in
-      let fits : p.state.steps + s.done ≤ limit = omega (arith, counts, done, within) in
       subst (λ (x : Point). Plays (Pick who.pid who.tid ∷ Tick steps ∷ []) p x) is.2
-      (subst (λ k. Plays (Pick who.pid who.tid ∷ Tick k ∷ []) p (behind asked p (turned s))) done (record {
-        records = s.records;
-        is = slice_plays (most_steps asked p.state) limit who p.state is.0 fits;
-        console = refl;
-        exits = refl;
-      }))
+      (slice_events_play (most_steps asked p.state) p who steps is.0 is.1 (omega (arith, counts, within)))
+
+  -- ---- preempted slices
+
+  preempted_steps : (p next : Point) (who : ThreadId) (steps : ℕ) → leads asked p (Preempted who steps) ≡ Some next
+      → next.state.steps ≡ p.state.steps + steps
+  preempted_steps p next who steps e =
+      let is = preempted_is asked p who steps next e in
+      ap (λ (x : Point). x.state.steps) (sym is.1)
+      ∙ (slice_counts steps who p.state
+      ∙ ap (λ k. p.state.steps + k) (slice_begins steps (most_steps asked p.state) who p.state is.0.fewer).done)
+
+  preempted_moves : (p next : Point) (who : ThreadId) (steps : ℕ) → leads asked p (Preempted who steps) ≡ Some next
+      → next.state.steps ≤ limit → Plays (events_of_move asked (Preempted who steps)) p next
+  preempted_moves p next who steps e within =
+      let is = preempted_is asked p who steps next e in
+      let counts : next.state.steps ≡ p.state.steps + steps = preempted_steps p next who steps e in
+      let plays = slice_events_play steps p who steps is.0.ready
+      (slice_begins steps (most_steps asked p.state) who p.state is.0.fewer).done (omega (arith, counts, within)) in
+      subst (λ (x : Point). Plays (Pick who.pid who.tid ∷ Tick steps ∷ []) p x) is.1
+      (record { records = plays.records; is = plays.is; console = plays.console; exits = plays.exits })
 
   -- ---- events
 
@@ -128,10 +156,13 @@ module _ (asked : Asked) (limit : ℕ) where
   move_counts : (p next : Point) (move : Move) → leads asked p move ≡ Some next → p.state.steps ≤ next.state.steps
   move_counts p next (Slice who steps) e =
       let counts : next.state.steps ≡ p.state.steps + steps = slice_steps p next who steps e in omega (arith, counts)
+  move_counts p next (Preempted who steps) e =
+      let counts : next.state.steps ≡ p.state.steps + steps = preempted_steps p next who steps e in omega (arith, counts)
   move_counts p next (Once k) e = (once_moves p next k e).1
 
   move_plays : (p next : Point) (move : Move) → leads asked p move ≡ Some next → next.state.steps ≤ limit → Plays (events_of_move asked move) p next
   move_plays p next (Slice who steps) e within = slice_moves p next who steps e within
+  move_plays p next (Preempted who steps) e within = preempted_moves p next who steps e within
   move_plays p next (Once k) e within = (once_moves p next k e).0
 
   -- ---- orders

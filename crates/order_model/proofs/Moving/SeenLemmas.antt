@@ -38,16 +38,16 @@ first_alike : (p : Point) (m : Machine) → IsLike p m → (list : List Failing)
 first_alike p m like list =
     λ i. least_below (length list) (λ place. option_map_or (λ failing. like failing i) (slice_get list place) false)
 
-alike : (bound : Bound) (quantum : ℕ) (once : List Event) (exits : Bool) (p : Point)
-    → AreSeenAlike (record { quantum = quantum; bound = bound; once = once; exits = exits }) p
+alike : (bound : Bound) (quantum : ℕ) (once : List Event) (exits : Bool) (preemptions : ℕ) (p : Point)
+    → AreSeenAlike (record { quantum = quantum; bound = bound; once = once; exits = exits; preemptions = preemptions }) p
 unfolding ready_ids kept_at seen_of
-alike Unbounded quantum once exits p = record {
+alike Unbounded quantum once exits preemptions p = record {
   seen = refl;
   failing = first_alike p _ (fails_at_any_count p);
   ending = refl;
   turns = refl;
 }
-alike (UpTo bound) quantum once exits p = record {
+alike (UpTo bound) quantum once exits preemptions p = record {
   seen = refl;
   failing = first_alike p _ (fails_from_any_turn p);
   ending = refl;
@@ -55,7 +55,7 @@ alike (UpTo bound) quantum once exits p = record {
 }
 
 pub nodes_are_seen_alike : NodesAreSeenAlike
-nodes_are_seen_alike asked p = alike asked.bound asked.quantum asked.once asked.exits p
+nodes_are_seen_alike asked p = alike asked.bound asked.quantum asked.once asked.exits asked.preemptions p
 
 pub note_alike : (asked : Asked) (p : Point) → note_of asked (node_of asked p).state ≡ note_of asked p.state
 note_alike asked p =

@@ -1,7 +1,8 @@
 use Rattle.std.proofs.Common.{sym, append-nil}
 use Rattle.order_model.specs.Asking.{asked_of}
 use Rattle.order_model.specs.Choosing.{comes_at}
-use Rattle.order_model.proofs.ChoiceLemmas.{next_event}
+use Rattle.order_model.proofs.ChoiceLemmas.{next_listed}
+use Rattle.order_model.specs.declared.choices.Choice.TheVariants.{Comes}
 use Rattle.xk_base.specs.Tables.Counting.{listed_below}
 use Rattle.order_model.proofs.choices.add_events.Goals as goal
 
@@ -11,5 +12,5 @@ loop-number-init c p same = sym (append-nil c.args.choices.now.items)
 
 pub loop-number-preserved : goal.loop-number-preserved
 loop-number-preserved c p same =
-    next_event (comes_at (asked_of c.args.orders.now) p) c.loop-number.number c.args.choices.now.items c.loop-number.choices.items c.add_event.new.choices.items
+    next_listed Comes (comes_at (asked_of c.args.orders.now) p) c.loop-number.number c.args.choices.now.items c.loop-number.choices.items c.add_event.new.choices.items
     (c.loop-number.invariant p same) (c.in_ok-add_event.ensures p same)
