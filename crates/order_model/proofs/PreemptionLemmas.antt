@@ -39,7 +39,8 @@ contained_map f xs d y at =
     let within : at.0 < length xs = rw (← length-map xs f) at.1 in
     (get_or xs at.0 d, (Contains-get_or xs at.0 d within, sym (get_or-map f xs at.0 d y within) ∙ at.2))
 
-contains_flat_map : {A B : Type 0} (f : A → List B) (xs : List A) (x : A) (y : B) → Contains xs x → Contains (f x) y → Contains (flat_map f xs) y
+contains_flat_map : {A B : Type 0} (f : A → List B) (xs : List A) (x : A) (y : B) → Contains xs x → Contains (f x) y
+    → Contains (flat_map f xs) y
 contains_flat_map {A} {B} f xs x y at inner = go xs at.0 at.1 at.2
   where
     go : (zs : List A) (k : ℕ) → k < length zs → get_or zs k x ≡ x → Contains (flat_map f zs) y
@@ -51,7 +52,8 @@ contained_none : {A : Type 0} (x : A) → Contains [] x → ⊥
 contained_none x at = omega (arith, at.1)
 
 -- an element of a list of lists comes of one of them
-contained_flat_map : {A B : Type 0} (f : A → List B) (xs : List A) (y : B) → Contains (flat_map f xs) y → (x : A) × (Contains xs x × Contains (f x) y)
+contained_flat_map : {A B : Type 0} (f : A → List B) (xs : List A) (y : B) → Contains (flat_map f xs) y
+    → (x : A) × (Contains xs x × Contains (f x) y)
 contained_flat_map f [] y at = absurd (contained_none y at)
 contained_flat_map {A} {B} f (z ∷ zs) y at =
     go (λ later. contained_flat_map f zs y later) (Contains-append_cases (f z) (flat_map f zs) y at)
@@ -79,12 +81,14 @@ record IsWithin (who : ThreadId) (k : ℕ) (of : ThreadId) (done : ℕ) : Type 0
   some : 0 < k
   fewer : k < done
 
-preemption_within : (of : ThreadId) (done : ℕ) (who : ThreadId) (k : ℕ) → Contains (preemptions_of of done) (Preempts who k) → IsWithin who k of done
+preemption_within : (of : ThreadId) (done : ℕ) (who : ThreadId) (k : ℕ) → Contains (preemptions_of of done) (Preempts who k)
+    → IsWithin who k of done
 preemption_within of done who k at =
     let from = contained_map (Preempts of) (listed_below done (nat_lt 0)) 0 (Preempts who k) at in
     let same : Preempts of from.0 ≡ Preempts who k = from.1.1 in
     let steps : from.0 ≡ k = (let e : Preempts of from.0 ≡ Preempts who k = same in cc) in
-    let passes = All-contains (λ i. (i < done) × (nat_lt 0 i ≡ true)) (listed_below done (nat_lt 0)) from.0 (listed_below-passes done (nat_lt 0)) from.1.0 in
+    let passes = All-contains (λ i. (i < done) × (nat_lt 0 i ≡ true)) (listed_below done (nat_lt 0)) from.0
+    (listed_below-passes done (nat_lt 0)) from.1.0 in
     let some : 0 < from.0 = ltb-true 0 from.0 passes.1 in
     record {
       same = (let e : Preempts of from.0 ≡ Preempts who k = same in cc);

@@ -2,6 +2,8 @@
 use Rattle.std.specs.Prelude.{◌≡◌, ◌≤◌, ◌+◌, ℕ, true, List, length, slice_get, Some}
 use Rattle.machine_model.specs.Runs.Matched.{Matched}
 use Rattle.graph_search.specs.declared.found.Edge.{Edge}
+use Rattle.graph_search.specs.declared.found.Strategy.{Strategy}
+use Rattle.graph_search.specs.declared.found.Strategy.TheVariants.{Breadth}
 use Rattle.graph_search.specs.Graph.{node_by}
 use Rattle.graph_search.specs.Paths.{labels_to}
 use Rattle.graph_search.specs.Told.{IsFound, Tells, TellsAll}
@@ -25,20 +27,21 @@ pub record IsNoteOf (asked : Asked) (node : Point) (note : Note) : Type 0 where
 
 -- ---- what was told
 
--- what a search from this point told: nodes by the edges to them, and notes of the first ones
+-- what a search from this point told, by this strategy: nodes by the edges to them, and notes of the first ones
 pub record Telling : Type 0 where
   pub asked : Asked
   pub start : Point
+  pub strategy : Strategy
   pub edges : List (Edge Move)
   pub notes : List Note
 
 -- it is so
 abbrev pub IsSound : Telling → Type 0
-IsSound t = Tells (after t.asked) (IsNoteOf t.asked) (node_of t.asked t.start) t.edges t.notes
+IsSound t = Tells (after t.asked) (IsNoteOf t.asked) (node_of t.asked t.start) t.strategy t.edges t.notes
 
 -- .. and it is all
 pub record IsWhole (t : Telling) : Type 0 where
-  pub all : TellsAll (after t.asked) (node_of t.asked t.start) t.edges
+  pub all : TellsAll (after t.asked) (node_of t.asked t.start) t.strategy t.edges
   pub followed : length t.notes ≡ length t.edges + 1
 
 -- the order leads to a point of this node
@@ -53,11 +56,11 @@ pub record IsToldOrder (t : Telling) (number : ℕ) : Type 0 where
   pub leads : leads_by t.asked t.start (labels_to t.edges number) ≡ Some last
   pub noted : (note : Note) → slice_get t.notes number ≡ Some note → note ≡ note_of t.asked last.state
 
--- the node of this point is told, by an order of so many moves at most, with its note
+-- the node of this point is told, with its note; breadth first, by an order of so many moves at most
 pub record IsPointTold (t : Telling) (p : Point) (most : ℕ) : Type 0 where
   pub number : ℕ
   pub found : IsFound (after t.asked) (node_of t.asked t.start) t.edges number (node_of t.asked p)
-  pub no_longer : length (labels_to t.edges number) ≤ most
+  pub no_longer : t.strategy ≡ Breadth → length (labels_to t.edges number) ≤ most
   pub noted : slice_get t.notes number ≡ Some (note_of t.asked p.state)
 
 -- ---- laws
@@ -72,8 +75,8 @@ PathsAreOrders =
 abbrev pub ToldAreOrders : Type 0
 ToldAreOrders = (t : Telling) (number : ℕ) → Matched t.start.state → IsSound t → number ≤ length t.edges → IsToldOrder t number
 
--- **A whole search leaves no order out**: each order from the start leads to a point of a node that is told, by no longer order, and its
--- note is right of that point.
+-- **A whole search leaves no order out**: each order from the start leads to a point of a node that is told, and its note is right of that
+-- point. A search breadth first tells it by no longer order.
 abbrev pub OrdersAreTold : Type 0
 OrdersAreTold =
     (t : Telling) (order : List Move) (last : Point) → Matched t.start.state → IsSound t → IsWhole t

@@ -69,8 +69,8 @@ pub fn told_are_orders()
     ensures { ToldAreOrders }
 {}
 
-/// **A whole search leaves no order out.** Each order from the start leads to a point of a node that is told, by no longer order, and its
-/// note is right of that point.
+/// **A whole search leaves no order out.** Each order from the start leads to a point of a node that is told, and its note is right of
+/// that point. A search breadth first tells it by no longer order.
 pub fn orders_are_told()
     ensures { OrdersAreTold }
 {}

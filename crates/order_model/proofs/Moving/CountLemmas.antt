@@ -79,13 +79,15 @@ module _ (asked : Asked) where
         let left : p.preempted < asked.preemptions = omega (arith, few) in
         preempted_leads asked p who steps (record { ready = is.0.ready; left = left; some = is.0.some; fewer = is.0.fewer }) ∙ ap Some is.1
 
-few_order : (asked : Asked) (more : ℕ) (order : List Move) (p last : Point) → leads_by (record asked { preemptions = more }) p order ≡ Some last
+few_order : (asked : Asked) (more : ℕ) (order : List Move) (p last : Point)
+    → leads_by (record asked { preemptions = more }) p order ≡ Some last
     → p.preempted + preemptions_in order ≤ asked.preemptions → leads_by asked p order ≡ Some last
 unfolding leads_by
 few_order asked more [] p last e few = e
 few_order asked more (move ∷ order) p last e few =
     let b = begins (record asked { preemptions = more }) 0 p last move order e in
-    let first : b.next.preempted ≡ p.preempted + count_of move = (move_counted (record asked { preemptions = more }) p b.next move b.first).count in
+    let first : b.next.preempted ≡ p.preempted + count_of move =
+    (move_counted (record asked { preemptions = more }) p b.next move b.first).count in
     let all : preemptions_in (move ∷ order) ≡ count_of move + preemptions_in order = sum_by-cons count_of move order in
     let fewer : p.preempted + preemptions_in (move ∷ order) ≤ asked.preemptions = few in
     ap (option_and_then (λ next. leads_by asked next order))

@@ -104,14 +104,16 @@ module _ (quantum : ℕ) (once : List Event) (exits : Bool) (preemptions : ℕ) 
     slices_lead true free x y alike =
         let a = alike refl in
         ap (λ done. then_leads (node_of (asks bound) p) true free done x) a.done
-        ∙ if_alike bound (free && (y.done == steps)) (behind (asks bound) (node_of (asks bound) p) (turned x)) (behind (asks bound) p (turned y))
+        ∙ if_alike bound (free && (y.done == steps))
+        (behind (asks bound) (node_of (asks bound) p) (turned x)) (behind (asks bound) p (turned y))
         (behind_alike bound a.steps p (turned x) (turned y) a.same a.count)
 
     -- .. and preempted ones
     abbrev then_preempts : Point → Bool → ℕ → SliceOf → Option Point
     then_preempts q ready done s =
         option_map (node_of (asks bound))
-        (if ready && (may_preempt (asks bound) p && (nat_lt 0 steps && nat_lt steps done)) then Some (with_preemption (behind (asks bound) q (turned s))) else None)
+        (if ready && (may_preempt (asks bound) p && (nat_lt 0 steps && nat_lt steps done))
+        then Some (with_preemption (behind (asks bound) q (turned s))) else None)
 
     preempted_lead : (ready : Bool) (whole_x whole_y x y : SliceOf) → (ready ≡ true → IsAlike bound whole_x whole_y)
         → (ready ≡ true → IsAlike bound x y)

@@ -6,6 +6,7 @@ use Rattle.std.proofs.lemmas.Option.{none-some, same_Some}
 use Rattle.machine_model.specs.Runs.Matched.{Matched}
 use Rattle.machine_model.specs.State.Machine.{Machine}
 use Rattle.graph_search.specs.declared.found.Edge.{Edge}
+use Rattle.graph_search.specs.declared.found.Strategy.{Strategy}
 use Rattle.graph_search.specs.Graph.{node_by}
 use Rattle.graph_search.specs.Paths.{labels_to}
 use Rattle.graph_search.specs.Told.{IsFound, IsTold}
@@ -87,9 +88,9 @@ module _ (asked : Asked) where
       go later None = refl
       go later (Some n) = later n
 
-  module _ (start : Point) (edges : List (Edge Move)) (notes : List Note) where
+  module _ (start : Point) (strategy : Strategy) (edges : List (Edge Move)) (notes : List Note) where
     abbrev t : Telling
-    t = record { asked = asked; start = start; edges = edges; notes = notes }
+    t = record { asked = asked; start = start; strategy = strategy; edges = edges; notes = notes }
 
     -- there is a note of each number below their count
     note_at : (ns : List Note) (i : ℕ) → i + 1 ≤ length ns → (note : Note) × (slice_get ns i ≡ Some note)
@@ -120,7 +121,7 @@ module _ (asked : Asked) where
       point_told : (path : List Move) (p : Point) → node_by (after asked) (node_of asked start) path ≡ Some (node_of asked p)
           → (goes_on asked.bound p.state ≡ true) × IsPointTold t p (length path)
       point_told path p at =
-          let told : IsTold (after asked) (node_of asked start) edges (node_of asked p) (length path) = whole.all path (node_of asked p) at in
+          let told : IsTold (after asked) (node_of asked start) strategy edges (node_of asked p) (length path) = whole.all path (node_of asked p) at in
           let within : told.number ≤ length edges = told.is.told in
           let all : length notes ≡ length edges + 1 = whole.followed in
           let note = note_at notes told.number (omega (arith, within, all)) in
@@ -162,7 +163,7 @@ pub paths_are_orders : PathsAreOrders
 paths_are_orders asked path p node h e = path_leads asked path p node h e
 
 pub told_are_orders : ToldAreOrders
-told_are_orders t number h sound within = told_order t.asked t.start t.edges t.notes h sound number within
+told_are_orders t number h sound within = told_order t.asked t.start t.strategy t.edges t.notes h sound number within
 
 pub orders_are_told : OrdersAreTold
-orders_are_told t order last h sound whole e = order_told t.asked t.start t.edges t.notes sound whole h order last e
+orders_are_told t order last h sound whole e = order_told t.asked t.start t.strategy t.edges t.notes sound whole h order last e
