@@ -25,7 +25,7 @@ shifted_fits r b fits =
       | inr differs ↦ rw differs (xor_lt 16 (r / 2) 0x8408 (omega arith) (omega arith))
     ]
 
-register_fits : (r : ℕ) (bs : List ℕ) → r < 65536 → register_after r bs < 65536
+pub register_fits : (r : ℕ) (bs : List ℕ) → r < 65536 → register_after r bs < 65536
 register_fits r [] fits = fits
 register_fits r (b ∷ bs) fits = register_fits (shifted r b) bs (shifted_fits r b fits)
 

@@ -51,7 +51,7 @@ zeros_apart zero a b = refl
 zeros_apart (suc k) a b = ap (λ (n : ℕ). register_after n (bits k 0)) (shifted_apart a b) ∙ zeros_apart k (shifted a 0) (shifted b 0)
 
 -- the register after k zero bytes
-unfoldable zero_bytes : ℕ → ℕ → ℕ
+unfoldable pub zero_bytes : ℕ → ℕ → ℕ
 zero_bytes zero r = r
 zero_bytes (suc k) r = zero_bytes k (register_after r (bits 8 0))
 
@@ -77,7 +77,7 @@ one_more_is z =
     ap (bit_xor (z / 256)) (in_table (z % 256) low) ∙ sym (zeros_by_parts z)
 
 -- the table has 256 words, and each is what k zero bytes make of its place
-abbrev IsTable : ℕ → List ℕ → Type 0
+abbrev pub IsTable : ℕ → List ℕ → Type 0
 IsTable k table = (length table ≡ 256) × ((i : ℕ) → i < 256 → get_or table i 0 ≡ zero_bytes k i)
 
 next_table : (k : ℕ) (table more : List ℕ) → IsTable k table → length more ≡ 256 → more ≡ map one_more table → IsTable (suc k) more
@@ -108,10 +108,10 @@ table_five = next_table 4 AFTER_FOUR AFTER_FIVE table_four refl refl
 table_six : IsTable 6 AFTER_SIX
 table_six = next_table 5 AFTER_FIVE AFTER_SIX table_five refl refl
 
-table_seven : IsTable 7 AFTER_SEVEN
+pub table_seven : IsTable 7 AFTER_SEVEN
 table_seven = next_table 6 AFTER_SIX AFTER_SEVEN table_six refl refl
 
-table_eight : IsTable 8 AFTER_EIGHT
+pub table_eight : IsTable 8 AFTER_EIGHT
 table_eight = next_table 7 AFTER_SEVEN AFTER_EIGHT table_seven refl refl
 
 -- ---- eight bytes
@@ -144,11 +144,12 @@ by_places i (suc n) xs all =
     let lt : i < length xs = omega (arith, all) in
     drop-cons xs i 0 lt ∙ ap (λ (ys : List ℕ). get_or xs i 0 ∷ ys) (by_places (suc i) n xs (omega (arith, all)))
 
-eight_by_parts : (r : ℕ) → zero_bytes 8 r ≡ bit_xor (zero_bytes 8 (r % 256)) (zero_bytes 7 (r / 256))
+-- zero bytes go over the low byte of a register; the high one comes down over the first of them
+pub zero_bytes_by_parts : (k r : ℕ) → zero_bytes (suc k) r ≡ bit_xor (zero_bytes (suc k) (r % 256)) (zero_bytes k (r / 256))
 unfolding zero_bytes
-eight_by_parts r =
-    ap (zero_bytes 7) (zeros_by_parts r) ∙ zero_bytes_apart 7 (r / 256) (register_after (r % 256) (bits 8 0))
-    ∙ xor_comm (zero_bytes 7 (r / 256)) (zero_bytes 8 (r % 256))
+zero_bytes_by_parts k r =
+    ap (zero_bytes k) (zeros_by_parts r) ∙ zero_bytes_apart k (r / 256) (register_after (r % 256) (bits 8 0))
+    ∙ xor_comm (zero_bytes k (r / 256)) (zero_bytes (suc k) (r % 256))
 
 -- the register's two bytes are mixed into the first two
 front_by_tables : (r b c : ℕ) → r < 65536 → b < 256 → c < 256
@@ -159,7 +160,7 @@ front_by_tables r b c r_fits b_fits c_fits =
     let high : bit_xor (r / 256) c < 256 = xor_lt 8 (r / 256) c (omega arith) (omega arith) in
     let l : ℕ = zero_bytes 8 (r % 256) in
     let h : ℕ = zero_bytes 7 (r / 256) in
-    let parts : zero_bytes 8 r ≡ bit_xor l h = eight_by_parts r in
+    let parts : zero_bytes 8 r ≡ bit_xor l h = zero_bytes_by_parts 7 r in
     ap₂ bit_xor (table_eight.1 (bit_xor (r % 256) b) low ∙ zero_bytes_apart 8 (r % 256) b) (table_seven.1 (bit_xor (r / 256) c) high ∙ zero_bytes_apart 7 (r / 256) c)
     ∙ sym (xor_assoc (bit_xor l (zero_bytes 8 b)) h (zero_bytes 7 c))
     ∙ ap (λ (n : ℕ). bit_xor n (zero_bytes 7 c)) (third_apart l (zero_bytes 8 b) h ∙ ap (λ (n : ℕ). bit_xor n (zero_bytes 8 b)) (sym parts))

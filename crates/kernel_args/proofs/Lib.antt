@@ -18,3 +18,4 @@ pub mod TableLemmas
 pub mod TagLemmas
 pub mod WritableLemmas
 pub mod WritingLemmas
+pub mod ZeroLemmas

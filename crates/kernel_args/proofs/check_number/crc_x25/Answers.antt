@@ -9,7 +9,7 @@ unfolding check_number
 returns c =
     let bytes : List ℕ = c.args.bytes.now in
     let cut = c.as_chunks.ensures in
-    let groups = ap (λ xs. register_after 0xFFFF (flat_map (flat_map (bits 8)) xs)) cut.front in
+    let blocks = ap (λ xs. register_after 0xFFFF (flat_map (flat_map (bits 8)) xs)) cut.front in
     ap (λ (n : ℕ). bit_xor n 0xFFFF)
-    (c.after_bytes.ensures ∙ ap₂ (λ (n : ℕ) (xs : List ℕ). register_after n (flat_map (bits 8) xs)) (c.after_groups-register.ensures ∙ groups) cut.back
-    ∙ groups_and_rest 8 (length bytes / 8) 0xFFFF bytes)
+    (c.after_piece.ensures ∙ ap₂ (λ (n : ℕ) (xs : List ℕ). register_after n (flat_map (bits 8) xs)) (c.after_blocks-register.ensures ∙ blocks) cut.back
+    ∙ groups_and_rest 64 (length bytes / 64) 0xFFFF bytes)
