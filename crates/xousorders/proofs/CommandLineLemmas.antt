@@ -9,8 +9,8 @@ use Rattle.event_text.specs.Lines.{number_of}
 use Rattle.event_text.specs.Spelling.{AreAskable, IsAskable}
 use Rattle.xk_base.specs.declared.events.Event.{Event}
 use Rattle.xk_base.specs.declared.events.Event.TheVariants.{Irq, Kill}
-use Rattle.xousorders.specs.Arguments.{Alone, Arg, Name, Valued}
-use Rattle.xousorders.specs.Values.{event_at, events_in, in_bounds, number_within}
+use Rattle.order_words.specs.Arguments.{Alone, Arg, Name, Valued}
+use Rattle.order_words.specs.Values.{event_at, events_in, in_bounds, number_within}
 
 -- a number in bounds
 within_bounds : (least most : ℕ) (x : Option ℕ) (n : ℕ) → in_bounds least most x ≡ Some n → n ≤ most

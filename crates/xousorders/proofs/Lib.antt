@@ -1,17 +1,10 @@
-mod AnswerLemmas
-mod ArgumentLemmas
 mod CallLemmas
 mod CommandLineLemmas
 mod EndingLemmas
-mod FailingWordLemmas
 mod FailureLemmas
 mod FileLemmas
 mod LineLemmas
-mod NumberLemmas
-mod PointLemmas
 mod ReplayLemmas
 mod RowLemmas
-mod SaidLemmas
 mod ShownLemmas
 mod ToldLemmas
-mod WordLemmas

@@ -10,6 +10,7 @@ use Rattle.order_search.specs.declared.subject.Subject.{Subject}
 use Rattle.order_search.specs.Faults.{IsBegun}
 use Rattle.order_search.specs.Found.{DigestsTell, Finding, FindsNodes, TellsAllOrders, finding_of, telling_in}
 use Rattle.order_search.specs.Quests.{searching_of}
+use Rattle.order_words.specs.declared.words.Words.{Words}
 use Rattle.program_status.specs.declared.status.Status.{Status}
 use Rattle.program_status.specs.declared.status.Status.TheVariants.{Done, WriteFault}
 use Rattle.xk_base.specs.Outside.{Rose}
@@ -31,7 +32,6 @@ use Rattle.xousorders.specs.declared.outcome.Outcome.{Outcome}
 use Rattle.xousorders.specs.declared.outcome.Outcome.TheVariants.{Cut, Ended, Failed}
 use Rattle.xousorders.specs.declared.run.Told.{Told}
 use Rattle.xousorders.specs.declared.view.View.{View}
-use Rattle.xousorders.specs.declared.words.Words.{Words}
 
 -- what is asked for, how many steps an order has at most where steps count, how many nodes are kept at most, whether event files are to be
 -- written, and into which folder, what is told of endings, whether it is a failure if they differ, and whether the search stops at a failure

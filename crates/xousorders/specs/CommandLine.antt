@@ -1,13 +1,13 @@
 -- How a call of the program ends, by the words of its command line.
 use Rattle.std.specs.Prelude.{◌≡◌, ◌⊎◌, ℕ, List}
 use Rattle.std.specs.declared.cmp.Ordering.{Ordering}
+use Rattle.order_words.specs.Words.{IsFaulty, Spells}
+use Rattle.order_words.specs.declared.words.Words.{Words}
 use Rattle.program_status.specs.declared.status.Status.{Status}
 use Rattle.program_status.specs.declared.status.Status.TheVariants.{NoMemory, Usage}
 use Rattle.xousorders.specs.Calls.{Ends, IsUnwritten, Sides, command_in}
-use Rattle.xousorders.specs.Words.{IsFaulty, Spells}
 use Rattle.xousorders.specs.declared.outcome.Outcome.{Outcome}
 use Rattle.xousorders.specs.declared.outcome.Outcome.TheVariants.{Ended}
-use Rattle.xousorders.specs.declared.words.Words.{Words}
 
 -- why nothing is done: the command line is faulty, or there is no memory to read it
 abbrev pub IsRefused : List (List ℕ) → Status → Type 0

@@ -1,5 +1,3 @@
-pub mod Answers
-pub mod Arguments
 pub mod Asked
 pub mod Calls
 pub mod CommandLine
@@ -10,5 +8,3 @@ pub mod Lines
 pub mod Outcomes
 pub mod Replayed
 pub mod Searched
-pub mod Values
-pub mod Words

@@ -1,16 +1,15 @@
 //! What a command line asks for is done.
 
 ghost use Rattle.std.specs.Prelude.{◌≡◌};
-ghost use Rattle.xousorders.specs.Arguments.{texts};
+ghost use Rattle.order_words.specs.Arguments.{texts};
 ghost use Rattle.xousorders.specs.Calls.{sides_of};
 ghost use Rattle.xousorders.specs.CommandLine.{EndsFor};
 
-use crate::arguments::Unread;
 use crate::event_files::EventFiles;
 use crate::outcome::Outcome;
 use crate::run::run;
-use crate::words::read_words;
 use graph_search::Watch;
+use order_words::{Unread, read_words};
 use program_status::Status;
 use std::alloc::Global;
 use xk_ports::{Host, Sink};

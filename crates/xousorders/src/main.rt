@@ -2,23 +2,17 @@
 #![tactic(auto)]
 
 mod answer;
-mod arguments;
-mod asked;
 mod command_line;
 mod endings;
 mod event_files;
-mod failing_words;
 mod failures;
 mod files;
 mod image;
 mod notes;
 mod outcome;
 mod run;
-mod said;
-mod sight_words;
 mod view;
 mod watching;
-mod words;
 
 use command_line::run_words;
 use event_files::DiskFiles;

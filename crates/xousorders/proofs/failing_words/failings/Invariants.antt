@@ -1,6 +1,0 @@
-use Rattle.std.proofs.Common.{map, take}
-use Rattle.xousorders.specs.Values.{AskForAll}
-use Rattle.xousorders.proofs.failing_words.failings.Given as goal
-
-abbrev pub invariant-loop-word : goal.invariant-loop-word
-invariant-loop-word l = AskForAll (map (λ word. word.now) (take l.word-index l.words)) l.fails.items

@@ -1,6 +1,0 @@
-use Rattle.std.proofs.Common.{◌≡◌, false, map, take}
-use Rattle.xousorders.specs.Arguments.{argument_in, is_given}
-use Rattle.xousorders.proofs.said.is_given.Given as goal
-
-abbrev pub invariant-loop-argument : goal.invariant-loop-argument
-invariant-loop-argument l = is_given l.option (map argument_in (take l.argument-index l.arguments)) ≡ false

@@ -1,7 +1,0 @@
-use Rattle.std.proofs.Common.{◌≡◌, map, take}
-use Rattle.xousorders.specs.Arguments.{argument_in, values_in}
-use Rattle.xousorders.proofs.said.values.Given as goal
-
-abbrev pub invariant-loop-argument : goal.invariant-loop-argument
-invariant-loop-argument l =
-    map (λ value. value.now) l.values.items ≡ values_in l.option (map argument_in (take l.argument-index l.arguments))
