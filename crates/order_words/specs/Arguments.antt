@@ -34,8 +34,8 @@ is_option word = starts_with nat_eq word (codes "--")
 -- these have a value, which is the word behind them, whatever it is
 abbrev pub options_with_value : List (List ℕ)
 options_with_value =
-    codes "--quantum" ∷ codes "--steps" ∷ codes "--states" ∷ codes "--from" ∷ codes "--irq" ∷ codes "--kill" ∷ codes "--write" ∷ codes "--see"
-    ∷ codes "--fails" ∷ []
+    codes "--quantum" ∷ codes "--preemptions" ∷ codes "--steps" ∷ codes "--states" ∷ codes "--seconds" ∷ codes "--from" ∷ codes "--irq"
+    ∷ codes "--kill" ∷ codes "--write" ∷ codes "--see" ∷ codes "--fails" ∷ []
 
 abbrev pub has_value : List ℕ → Bool
 has_value word = is_one_of options_with_value word

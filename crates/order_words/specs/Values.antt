@@ -46,6 +46,12 @@ number_in least most default [] = Some default
 number_in least most default (word ∷ []) = number_within least most word
 number_in least most default (word ∷ other ∷ words) = None
 
+-- the number that the only value spells; without one it is none
+abbrev pub given_number_in : ℕ → ℕ → List (List ℕ) → Option (Option ℕ)
+given_number_in least most [] = Some None
+given_number_in least most (word ∷ []) = option_map Some (number_within least most word)
+given_number_in least most (word ∷ other ∷ words) = None
+
 -- ---- events that may come
 
 -- the event that an argument asks for, if it is `--irq K` or `--kill PID`; Some None if its value is no such number

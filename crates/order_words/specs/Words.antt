@@ -5,7 +5,7 @@ use Rattle.order_model.specs.declared.failing.Failing.{Failing}
 use Rattle.xk_base.specs.declared.events.Event.{Event}
 use Rattle.xk_base.specs.declared.limits.TheConstants.{STEP_LIMIT}
 use Rattle.order_words.specs.Arguments.{Arg, AreArguments, is_given, is_one_of, names_in, values_in}
-use Rattle.order_words.specs.Values.{AskForAll, at_most_one, events_in, number_in, only, others_than_differ, sights_in}
+use Rattle.order_words.specs.Values.{AskForAll, at_most_one, events_in, given_number_in, number_in, only, others_than_differ, sights_in}
 use Rattle.order_words.specs.declared.arguments.Unread.{Unread}
 use Rattle.order_words.specs.declared.arguments.Unread.TheVariants.{NoMemory, Usage}
 use Rattle.order_words.specs.declared.words.Words.{Words}
@@ -27,13 +27,16 @@ pub record AreFailures (words : List (List ℕ)) (exits : Bool) (fails : List Fa
   pub exit : is_one_of words (codes "exit") ≡ true → exits ≡ true
   pub fault : is_one_of words (codes "fault") ≡ true → exits ≡ true
 
--- **What arguments ask for**: an image; numbers in their bounds, or their defaults; an event file that is played before, or none, and a
--- folder, or none; events that may come; what is seen, and told in which digits; and failures. `--one` is another word for `--fails differ`.
+-- **What arguments ask for**: an image; numbers in their bounds, or their defaults, or none; an event file that is played before, or none,
+-- and a folder, or none; events that may come; what is seen, and told in which digits; and failures. `--one` is another word for
+-- `--fails differ`.
 pub record Asks (args : List Arg) (words : Words) : Type 0 where
   pub image : only (names_in args) ≡ Some words.image.now
   pub quantum : number_in 1 STEP_LIMIT 1000 (values_in (codes "--quantum") args) ≡ Some words.quantum
   pub steps : number_in 1 STEP_LIMIT 100000 (values_in (codes "--steps") args) ≡ Some words.steps
   pub states : number_in 1 4294967295 100000 (values_in (codes "--states") args) ≡ Some words.states
+  pub preemptions : given_number_in 0 255 (values_in (codes "--preemptions") args) ≡ Some words.preemptions
+  pub seconds : given_number_in 1 4000000000 (values_in (codes "--seconds") args) ≡ Some words.seconds
   pub before : at_most_one (values_in (codes "--from") args) ≡ Some (option_copied words.before)
   pub folder : IsFolder (values_in (codes "--write") args) (option_copied words.folder)
   pub once : AreOnce args words.once.items

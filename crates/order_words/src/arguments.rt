@@ -68,6 +68,7 @@ fn has_value(word: &str) -> bool
 {
     match word {
         "--quantum" | "--steps" | "--states" => true,
+        "--preemptions" | "--seconds" => true,
         "--from" | "--irq" | "--kill" => true,
         "--write" | "--see" | "--fails" => true,
         _ => false,

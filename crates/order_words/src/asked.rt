@@ -5,7 +5,7 @@ ghost use Rattle.std.specs.Prelude.{◌≡◌, ◌≤◌, ◌++◌, ℕ, IfSome,
 ghost use Rattle.xk_base.specs.declared.events.Event.{Event};
 ghost use Rattle.order_words.specs.Answers.{Answers};
 ghost use Rattle.order_words.specs.Arguments.{argument_in, names_in, values_in};
-ghost use Rattle.order_words.specs.Values.{at_most_one as at_most_one_of, event_at as event_in, events_in, number_in, number_within, only as only_of};
+ghost use Rattle.order_words.specs.Values.{at_most_one as at_most_one_of, event_at as event_in, events_in, given_number_in, number_in, number_within, only as only_of};
 
 use crate::arguments::{Argument, Unread};
 use crate::said::{names, values};
@@ -53,7 +53,8 @@ pub fn value_of<'a>(
     option: &str,
 ) -> Result<Option<&'a str>, Unread>
     ensures { let values = values_in option.now (map argument_in arguments.now) in
-        Answers (λ value. at_most_one_of values ≡ Some (option_copied value)) (λ (value : Option (List ℕ)). at_most_one_of values ≡ Some value) result }
+        Answers (λ value. at_most_one_of values ≡ Some (option_copied value))
+        (λ (value : Option (List ℕ)). at_most_one_of values ≡ Some value) result }
 {
     let values = values(alloc, arguments, option)?;
     match at_most_one(&values) {
@@ -100,6 +101,38 @@ pub fn number_of(
 {
     let values = values(alloc, arguments, option)?;
     match number_with(&values, least, most, default) {
+        Some(number) => Ok(number),
+        None => Err(Unread::Usage),
+    }
+}
+
+/// The number that the only word spells, or none where there is none.
+fn given_number_with(words: &[&str], least: u32, most: u32) -> Option<Option<u32>>
+    ensures { result ≡ given_number_in least most (map (λ word. word.now) words.now) }
+{
+    match words {
+        [] => Some(None),
+        [word] => match number(word, least, most) {
+            Some(number) => Some(Some(number)),
+            None => None,
+        },
+        _ => None,
+    }
+}
+
+/// The number that an option asks for, from `least` to `most`, if it is given.
+pub fn given_number_of(
+    alloc: Global,
+    arguments: &[Argument<'_>],
+    option: &str,
+    least: u32,
+    most: u32,
+) -> Result<Option<u32>, Unread>
+    ensures { let values = values_in option.now (map argument_in arguments.now) in
+        Answers (λ n. given_number_in least most values ≡ Some n) (λ (n : Option ℕ). given_number_in least most values ≡ Some n) result }
+{
+    let values = values(alloc, arguments, option)?;
+    match given_number_with(&values, least, most) {
         Some(number) => Ok(number),
         None => Err(Unread::Usage),
     }

@@ -9,7 +9,7 @@ ghost use Rattle.order_words.specs.Arguments.{argument_in, is_one_of, texts, val
 ghost use Rattle.order_words.specs.Words.{AreFailures, AreOnce, Asks, IsFolder, Reads};
 
 use crate::arguments::{Argument, Unread, arguments_of};
-use crate::asked::{events_of, image_of, number_of, value_of};
+use crate::asked::{events_of, given_number_of, image_of, number_of, value_of};
 use crate::failing_words::failings_of;
 use crate::said::{is_given, values};
 use crate::sight_words::sights_of;
@@ -20,6 +20,12 @@ use xk_base::limits::STEP_LIMIT;
 
 /// The most events that may come once.
 const ONCE_LIMIT: usize = 255;
+
+/// The most preemptions of an order.
+const PREEMPTION_LIMIT: u32 = 255;
+
+/// The most seconds of a search.
+const TIME_LIMIT: u32 = 4_000_000_000;
 
 /// The most failures that are asked for.
 const FAILURE_LIMIT: usize = 255;
@@ -34,6 +40,10 @@ pub struct Words<'a> {
     pub steps: u32,
     /// How many nodes are kept at most.
     pub states: u32,
+    /// How many slices of an order may be preempted, if that is given.
+    pub preemptions: Option<u32>,
+    /// How many seconds the search may take, if that is given.
+    pub seconds: Option<u32>,
     /// The events that are played before.
     pub before: Option<&'a str>,
     /// The events that may come, each once.
@@ -117,6 +127,8 @@ fn words_of<'a>(alloc: Global, arguments: &[Argument<'a>]) -> Result<Words<'a>, 
     let quantum = number_of(alloc, arguments, "--quantum", 1, STEP_LIMIT, 1_000)?;
     let steps = number_of(alloc, arguments, "--steps", 1, STEP_LIMIT, 100_000)?;
     let states = number_of(alloc, arguments, "--states", 1, u32::MAX, 100_000)?;
+    let preemptions = given_number_of(alloc, arguments, "--preemptions", 0, PREEMPTION_LIMIT)?;
+    let seconds = given_number_of(alloc, arguments, "--seconds", 1, TIME_LIMIT)?;
     let before = value_of(alloc, arguments, "--from")?;
     let folder = folder_of(alloc, arguments)?;
     let once = once_of(alloc, arguments)?;
@@ -128,6 +140,8 @@ fn words_of<'a>(alloc: Global, arguments: &[Argument<'a>]) -> Result<Words<'a>, 
         quantum,
         steps,
         states,
+        preemptions,
+        seconds,
         before,
         once,
         folder,

@@ -37,8 +37,8 @@ number_of Cut = 10
 
 abbrev pub usage_line : List ℕ
 usage_line =
-    codes "usage: xousorders IMAGE [--quantum N] [--steps N] [--states N] [--from EVENTS] [--irq K].. "
-    ++ codes "[--kill PID].. [--write DIR] [--see WHAT,..] [--hex] [--fails WHAT].. [--first] [--one]\n"
+    codes "usage: xousorders IMAGE [--quantum N] [--preemptions P] [--steps N] [--states N] [--seconds N] [--from EVENTS] "
+    ++ codes "[--irq K].. [--kill PID].. [--write DIR] [--see WHAT,..] [--hex] [--fails WHAT].. [--first] [--one]\n"
 
 -- the text on the notes; there is none where all was told
 abbrev pub note_of : Outcome → List ℕ

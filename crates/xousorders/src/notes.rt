@@ -17,11 +17,11 @@ fn usage() -> Line
     let mut line = Line::new();
     put(
         &mut line,
-        b"usage: xousorders IMAGE [--quantum N] [--steps N] [--states N] [--from EVENTS] [--irq K].. ",
+        b"usage: xousorders IMAGE [--quantum N] [--preemptions P] [--steps N] [--states N] [--seconds N] [--from EVENTS] ",
     );
     put(
         &mut line,
-        b"[--kill PID].. [--write DIR] [--see WHAT,..] [--hex] [--fails WHAT].. [--first] [--one]\n",
+        b"[--irq K].. [--kill PID].. [--write DIR] [--see WHAT,..] [--hex] [--fails WHAT].. [--first] [--one]\n",
     );
     line
 }

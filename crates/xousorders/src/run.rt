@@ -234,6 +234,8 @@ fn search_words<H: Host, W: Watch>(
         quantum,
         steps,
         states,
+        preemptions: _,
+        seconds: _,
         before,
         once,
         folder: _,
