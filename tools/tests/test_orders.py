@@ -1,5 +1,6 @@
 """Every order of an image's threads, searched slowly, and compared with examples/orders/found, as the program xousorders is."""
 
+import dataclasses
 import pathlib
 import re
 import subprocess
@@ -93,6 +94,41 @@ OTHER_SEARCHES = {
     "a failure that isn't told": (("fails: fault in ending 2, 1 slice\n", ""), 2),
     "endings that aren't told to differ": (("\nfails: differ, 3 endings", ""), 1),
 }
+# An output with the endings as they are found, in a search that began to count steps, and in two levels of preemptions; and some of other
+# form.
+LEVELS = """found 1: console "b"; 2 exited 0; 4 slices
+steps count
+found 1: console "a; 1 slice"; 2 exited 0; 4 slices
+states 9 slices 8 whole within 50 steps preemptions 0
+ending 1: console "a; 1 slice"; 2 exited 0; 2 nodes; 4 slices
+1 ending
+found 1: console "a; 1 slice"; 2 exited 0; 4 slices
+found 2: console "b"; 2 exited 121; 5 slices, 1 preemption; fails: exit
+found 3: console "b"; 2 exited 121; 3 slices, 2 preemptions; fails: console=b; fails: exit
+states 29 slices 38 cut preemptions 1
+ending 1: console "a; 1 slice"; 2 exited 0; 3 nodes; 4 slices
+ending 2: console "b"; 2 exited 121; 1 node; 5 slices, 1 preemption
+ending 3: console "b"; 2 exited 121; 1 node; 3 slices, 2 preemptions
+3 endings
+fails: exit in ending 2, 5 slices, 1 preemption
+fails: console=b; fails: exit in ending 3, 3 slices, 2 preemptions"""
+OTHER_LEVELS = {
+    "no report behind them": ("\nstates 29", "\nfound 4: 2 exited 0; 1 slice\nstates 29"),
+    "an ending more than the report": ("found 3", "found 3: 2 exited 0; 1 slice\nfound 4"),
+    "an ending that isn't found": ('found 1: console "a; 1 slice"; 2 exited 0; 4 slices\nfound 2', "found 1"),
+    "an ending that is found otherwise": ("found 2: console \"b\"; 2 exited 121; 5", "found 2: console \"b\"; 2 exited 121; 6"),
+    "another failure when it is found": ("1 preemption; fails: exit\nfound", "1 preemption; fails: fault\nfound"),
+    "an ending of another number": ("found 2", "found 4"),
+    "one preemption as several": ("5 slices, 1 preemption\nending", "5 slices, 1 preemptions\nending"),
+    "no preemption": ("in ending 2, 5 slices, 1 preemption", "in ending 2, 5 slices, 0 preemptions"),
+    "a failure with other preemptions": ("in ending 2, 5 slices, 1 preemption", "in ending 2, 5 slices, 2 preemptions"),
+    "steps that count twice": ("steps count\n", "steps count\nsteps count\n"),
+    "a level that is left out": ("preemptions 1\nending", "preemptions 2\nending"),
+    "a level that isn't told": (" preemptions 1\nending", "\nending"),
+    "a level that isn't whole": ("8 whole within", "8 cut within"),
+    "other lines": ("found 1: console \"b\"", "finds 1: console \"b\""),
+    "endings that are found last": ("fails: console=b; fails: exit in ending 3, 3 slices, 2 preemptions", "found 1: 1 slice"),
+}
 # What is seen in other ways, and of it the console's bytes and who is gone.
 SIGHTS = {
     "console 4f6b0a; 3 exited 0": (b"Ok\n", {3}),
@@ -107,6 +143,28 @@ def is_read(text):
         return found.read(text.splitlines()) is not None
     except ValueError:
         return False
+
+
+def checks_of_levels():
+    """Endings as they are found, and the reports of levels, are read; the last report decides."""
+    first, last = found.read_levels(LEVELS.splitlines())
+    yield found.read(LEVELS.splitlines()) == last, "the last report is taken"
+    yield [*first.lines(), *last.lines()] == [line for line in LEVELS.splitlines() if not line.startswith(("found", "steps"))], "levels are spelled"
+    yield (first.within, first.preemptions, last.within, last.preemptions) == (50, 0, None, 1), f"what levels search: {first}, {last}"
+    news = [ending.news(number) for number, ending in enumerate(last.endings, 1)]
+    yield news == [line for line in LEVELS.splitlines() if line.startswith("found")][2:], f"endings are spelled as they are found: {news}"
+    yield [ending.fails for ending in last.endings] == ["", "exit", "console=b; fails: exit"], "what endings of levels fail of"
+    yield [list(told) for told in found.levels(LEVELS.splitlines()[:1])] == [[[last_of("b", 4)], None]], "a search without a report"
+    for name, (old, new) in OTHER_LEVELS.items():
+        yield LEVELS.count(old) == 1 and not is_read(LEVELS.replace(old, new)), f"an output with {name}"
+    other = found.read(LEVELS.replace("5 slices, 1 p", "7 slices, 1 p").splitlines())
+    yield list(found.differences(last, other)) == [], "orders of searches with preemptions may differ in their lengths"
+    other = dataclasses.replace(last, preemptions=None)
+    yield len(list(found.differences(last, other))) == 1, "a search without levels differs from one with them"
+
+
+def last_of(console, slices):
+    return found.Ending(f'console "{console}"; 2 exited 0', 0, slices)
 
 
 # Searches that are whole or cut, whose endings differ or don't, and are asked for failures or not.
@@ -279,6 +337,63 @@ def checks_of_toy():
             yield found.read(lines) == searched, f"a toy searched {words}: its lines are read"
 
 
+# A toy with preemptions: each of two threads adds one to a total in one slice of two steps, of which the first loads it. What is seen is
+# the total, when both have ended.
+
+
+class Adders(Toy):
+    def begin(self, total, loaded, left, **more):
+        machine = SimpleNamespace(ready=lambda: sorted(left), steps=more.pop("steps"), claims=[], total=total, loaded=loaded, left=left)
+        return orders.Node([], more.pop("slices"), str(total).encode(), (), {}, machine, **more)
+
+    def played(self, path, once=()):
+        return self.begin(0, (), tuple(LETTERS), steps=0, slices=0)
+
+    def visited(self, node):
+        return node
+
+    def slice_of(self, node, who):
+        machine = node.machine
+        loaded = dict(machine.loaded)
+        steps = machine.steps + (1 if who in loaded else 2)
+        total = loaded.pop(who, machine.total) + 1
+        left = tuple(other for other in machine.left if other != who)
+        return self.begin(total, tuple(loaded.items()), left, steps=steps, slices=node.slices + 1, preempted=node.preempted)
+
+    def preempted_of(self, node, who, steps):
+        machine = node.machine
+        loaded = tuple(sorted([*machine.loaded, (who, machine.total)]))
+        more = {"steps": machine.steps + steps, "slices": node.slices + 1, "preempted": node.preempted + 1}
+        return self.begin(machine.total, loaded, machine.left, **more)
+
+
+def key_of_adders(node, counts):
+    return node.machine.total, node.machine.loaded, node.machine.left, node.preempted, counts
+
+
+def seen_of_adders(node):
+    return Seen(node.console, {})
+
+
+# With one preemption: the four nodes without, four in which a thread has loaded the total, two of which come behind the other's slice, two
+# in which one has ended since, two in which one has ended with the total that the other loaded before it, and two endings.
+TOLD_OF_ADDERS = {
+    0: 'states 4 slices 4 whole preemptions 0|ending 1: console "2"; 1 node; 2 slices|1 ending',
+    1: 'states 14 slices 14 whole preemptions 1|ending 1: console "2"; 2 nodes; 2 slices|ending 2: console "1"; 1 node; 3 slices, 1 preemption|2 endings'
+    "|fails: console=1 in ending 2, 3 slices, 1 preemption",
+}
+
+
+def checks_of_preemptions():
+    asked = asked_of(parser().parse_args("xousim --search image --preemptions 1 --fails console=1".split()))
+    with mock.patch.object(orders, "key_of", key_of_adders), mock.patch.object(orders, "seen", seen_of_adders):
+        for level in orders.levels(asked):
+            lines = Adders("xousim", "image", asked, "folder", level=level).search().told()[0].lines()
+            yield "|".join(lines) == TOLD_OF_ADDERS[level], f"a toy searched with {level} preemptions: {lines}"
+        lines = Adders("xousim", "image", asked, "folder").search().told()[0].lines()
+        yield "|".join(lines) == TOLD_OF_ADDERS[0].replace(" preemptions 0", ""), f"a toy searched without preemptions: {lines}"
+
+
 # What a file of events plays.
 
 
@@ -437,6 +552,9 @@ class Orders(Case):
     def test_reading(self):
         self.hold(checks_of_reading())
 
+    def test_levels(self):
+        self.hold(checks_of_levels())
+
     def test_seen(self):
         self.hold(checks_of_seen())
 
@@ -448,6 +566,9 @@ class Orders(Case):
 
     def test_toy(self):
         self.hold(checks_of_toy())
+
+    def test_preemptions(self):
+        self.hold(checks_of_preemptions())
 
     def test_searches(self):
         self.hold(checks_of_search(need_program(), GIVEN.is_long))

@@ -6,6 +6,7 @@ import argparse
 import os
 import pathlib
 import tempfile
+from collections.abc import Iterator
 
 from ..command import USAGE as USAGE_STATUS
 from ..command import Parser, decimal, say
@@ -15,10 +16,12 @@ from ..runs import events, fails, orders, seen
 from ..runs.found import CUT, Found
 from . import test
 
+MOST_PREEMPTIONS = 255
 USAGE = """test-orders XOUSIM --search IMAGE [--quantum N] [--steps N] [--states N] [--from EVENTS] [--irq K].. [--kill PID].. [--write DIR]
-                   [--see WHAT,..] [--hex] [--fails WHAT].. [--first] [--one]
+                   [--see WHAT,..] [--hex] [--fails WHAT].. [--first] [--one] [--preemptions P]
        test-orders [XOUSIM [XOUSORDERS]] [--long]"""
-DESCRIPTION = """Searches every order of an image's threads, slowly, over runs of xousim, and prints what xousorders prints (docs/orders.md).
+DESCRIPTION = """Searches every order of an image's threads, slowly, over runs of xousim, and prints the reports of xousorders (docs/orders.md).
+It searches breadth first, with --preemptions too, and leaves out the lines of endings as they are found.
 
 Without --search it runs the tests of such searches (tools/test -k test_orders), with --long those of many states too."""
 STATUSES = """statuses:
@@ -40,8 +43,8 @@ def parser() -> Parser:
     example = "tools/test-orders ./xousim --search examples/orders/lost.image --quantum 1"
     words = Parser("test-orders", USAGE, DESCRIPTION, example, statuses=STATUSES)
 
-    def number(what: str):
-        return lambda text: decimal(text, what)
+    def number(what: str, most: int | None = None):
+        return lambda text: decimal(text, what, 0, most)
 
     words.add_argument("program", metavar="XOUSIM", nargs="?", help="the program xousim")
     words.add_argument("searcher", metavar="XOUSORDERS", nargs="?", help="the program xousorders, for its tests")
@@ -60,6 +63,8 @@ def parser() -> Parser:
     words.add_argument("--fails", action="append", default=[], metavar="WHAT", help=fail)
     words.add_argument("--first", dest="stops", action="store_true", help="stop at the first that fails")
     words.add_argument("--one", action="store_true", help="the same as --fails differ")
+    preempted = "so many slices of an order may be preempted at most; 0, 1 and so on are searched one after another"
+    words.add_argument("--preemptions", type=number("bound of preemptions", MOST_PREEMPTIONS), metavar="P", help=preempted)
     return words
 
 
@@ -82,13 +87,23 @@ def asked_of(given: argparse.Namespace) -> orders.Asked:
     first, _ = events.read(read_file(given.first, MOST_EVENT_BYTES)) if given.first else ([], None)
     differ = given.one or fails.DIFFER in given.fails
     bounds = given.quantum, given.steps, given.states
-    return orders.Asked(*bounds, tuple(once), first, sights, given.hex, failures_of(given, sights), differ, given.stops)
+    failing = failures_of(given, sights)
+    return orders.Asked(*bounds, tuple(once), first, sights, given.hex, failing, differ, given.stops, given.preemptions)
+
+
+def search_levels(program: str, image: str, asked: orders.Asked) -> Iterator[tuple[Found, list[orders.Node]]]:
+    """What is found at each level, and of each ending a node with the shortest order; the last level decides."""
+    for level in orders.levels(asked):
+        with tempfile.TemporaryDirectory() as folder:
+            told, nodes = orders.Search(program, image, asked, folder, level=level).search().told()
+        yield told, nodes
+        if not told.is_whole:
+            return
 
 
 def search(program: str, image: str, asked: orders.Asked) -> tuple[Found, list[orders.Node]]:
-    """What a search finds, and of each ending a node with the shortest order."""
-    with tempfile.TemporaryDirectory() as folder:
-        return orders.Search(program, image, asked, folder).search().told()
+    """What the last level finds, or a search without levels."""
+    return list(search_levels(program, image, asked))[-1]
 
 
 def write_orders(folder: str, endings: list[orders.Node]) -> None:
@@ -108,8 +123,8 @@ def main(line: list[str]) -> int:
     if not os.access(program, os.X_OK):
         raise Refusal(f"{given.program}: no program that can be started")
     asked = asked_of(given)
-    told, endings = search(program, given.search, asked)
-    print("\n".join(told.lines()))
+    for told, endings in search_levels(program, given.search, asked):
+        print("\n".join(told.lines()), flush=True)
     if given.write:
         write_orders(given.write, endings)
     status = told.status(asked.asks_for_failures())

@@ -2,8 +2,11 @@
 
 A *slice* of a ready thread is `pick` of it and its steps up to the first that leaves a record, at most so many as the quantum. A
 *node* is a state without its cursor and, where steps don't count, without its count of steps, with the console's bytes so far, what
-processes ended with, and the events that may still come. An *ending* is a node in which nobody is ready, or where steps count and are at
-their bound.
+processes ended with, the events that may still come, and how many slices of its order were preempted. An *ending* is a node in which
+nobody is ready, or where steps count and are at their bound.
+
+A slice is *preempted* if it stops sooner, after any of its steps but the last. With preemptions there is a search for each number of
+them, from none on, whose orders have so many at most.
 
 Steps count in all nodes or in none: two orders that lead to one node may have done other numbers of steps, and who claims the
 timer's interrupt there can read them. So a search is made anew, with a bound of steps, where it comes to a state in which somebody has.
@@ -36,7 +39,7 @@ WORKERS = 3
 class Asked:
     """What is searched: the quantum, the bound of steps where these count, how many nodes at most, events that may come once, and
     the events that are played first; what is seen of endings, and the console as digits or not; what makes them failures, whether that
-    is if they differ too, and whether the search stops at the first."""
+    is if they differ too, and whether the search stops at the first; how many slices of an order may be preempted, if levels are searched."""
 
     quantum: int = 1000
     steps: int = 100_000
@@ -48,6 +51,7 @@ class Asked:
     fails: tuple[fails.Failing, ...] = ()
     differ: bool = False
     stops: bool = False
+    preemptions: int | None = None
 
     def asks_for_failures(self) -> bool:
         return bool(self.fails) or self.differ
@@ -56,12 +60,13 @@ class Asked:
 @dataclass
 class Node:
     path: list  # events from the image's start
-    slices: int
+    slices: int  # preempted ones too
     console: bytes
     once: tuple
     ends: dict[int, Ended]
     machine: state.State | None = None
     file: str = ""  # of the machine's bytes, as long as the node isn't expanded
+    preempted: int = 0  # how many of the slices
 
 
 class TimerClaimed(Exception):
@@ -77,12 +82,14 @@ def key_of(node, counts):
     machine = node.machine
     kept = dataclasses.replace(machine, cursor=(2, 2), steps=machine.steps if counts else 0)
     digest = hashlib.sha256(kept.to_bytes())
-    return digest.digest(), node.console, tuple(event.text() for event in node.once), tuple(sorted(node.ends.items()))
+    return digest.digest(), node.console, tuple(event.text() for event in node.once), tuple(sorted(node.ends.items())), node.preempted
 
 
 class Search:
-    def __init__(self, program, image, asked, folder, counts=False):
-        self.program, self.image, self.asked, self.folder, self.counts = program, image, asked, folder, counts
+    """A search: of orders with so many preemptions at most, where levels are searched."""
+
+    def __init__(self, program, image, asked, folder, counts=False, level=None):
+        self.program, self.image, self.asked, self.folder, self.counts, self.level = program, image, asked, folder, counts, level
         self.files, self.slices = itertools.count(), 0
         self.nodes, self.endings = {}, []
         self.whole, self.stopped = True, False
@@ -114,7 +121,7 @@ class Search:
         """The node with its state, which stands in a file, too."""
         data = self.run("suspend", self.image, node.path, MOST_STEPS)
         node.machine = state.read(data)
-        node.file = os.path.join(self.folder, f"{hashlib.sha256(data + node.console).hexdigest()}.state")
+        node.file = os.path.join(self.folder, f"{next(self.files)}.state")
         with open(node.file, "wb") as file:
             file.write(data)
         return node
@@ -135,12 +142,23 @@ class Search:
         own = [record for record in records if record.step == last]
         path = [*node.path, pick, events.tick(last - machine.steps)]
         ends = self.ends_on(node.ends, own)
-        return self.visited(Node(path, node.slices + 1, node.console + written_in(own), node.once, ends))
+        return self.visited(Node(path, node.slices + 1, node.console + written_in(own), node.once, ends, preempted=node.preempted))
+
+    def preempted_of(self, node, who, steps):
+        """The node behind a slice of this thread that is preempted after so many steps, which leave no record."""
+        path = [*node.path, events.Event(0, "pick", who), events.tick(steps)]
+        return self.visited(Node(path, node.slices + 1, node.console, node.once, node.ends, preempted=node.preempted + 1))
+
+    def slices_of(self, node, who):
+        """The nodes behind a slice of this thread, and behind those that are preempted, if the order may have one more."""
+        whole = self.slice_of(node, who)
+        steps = range(1, whole.machine.steps - node.machine.steps) if node.preempted < (self.level or 0) else ()
+        return [whole, *(self.preempted_of(node, who, count) for count in steps)]
 
     def after_event(self, node, event):
         rest = tuple(other for other in node.once if other is not event)
         ends = self.ends_on(node.ends, self.records("resume", node.file, [event]))
-        return self.visited(Node([*node.path, event], node.slices, node.console, rest, ends))
+        return [self.visited(Node([*node.path, event], node.slices, node.console, rest, ends, preempted=node.preempted))]
 
     def ends_on(self, ends, records):
         """What processes ended with that ended before, and in these records, if exits are seen."""
@@ -155,7 +173,7 @@ class Search:
         key = key_of(node, self.counts)
         if key in self.nodes or len(self.nodes) >= self.asked.states:
             self.whole = self.whole and key in self.nodes
-            if os.path.exists(node.file) and key not in self.nodes:
+            if os.path.exists(node.file):
                 os.unlink(node.file)
             return False
         self.nodes[key] = node
@@ -166,10 +184,10 @@ class Search:
         return True
 
     def successors(self, pool, node):
-        """The nodes behind each slice and each event, in order."""
+        """The nodes behind each slice and each event, in order. Only whole slices are counted."""
         ready = [] if self.is_ending(node) else node.machine.ready()
         self.slices += len(ready)
-        jobs = [pool.submit(self.slice_of, node, who) for who in ready]
+        jobs = [pool.submit(self.slices_of, node, who) for who in ready]
         return jobs + [pool.submit(self.after_event, node, event) for event in node.once]
 
     def search(self):
@@ -177,7 +195,7 @@ class Search:
         try:
             return self.search_nodes()
         except TimerClaimed:
-            return Search(self.program, self.image, self.asked, self.folder, counts=True).search_nodes()
+            return type(self)(self.program, self.image, self.asked, self.folder, True, self.level).search_nodes()
 
     def search_nodes(self):
         first = self.visited(self.played(list(self.asked.first), self.asked.once))
@@ -188,7 +206,7 @@ class Search:
                 jobs = [(node, self.successors(pool, node)) for node in level]
                 level = []
                 for node, coming in jobs:
-                    met = [job.result() for job in coming]
+                    met = [after for job in coming for after in job.result()]
                     level += [other for other in met if not self.stopped and self.meet(other)]
                     node.machine = None if node not in self.endings else node.machine
         return self
@@ -205,11 +223,17 @@ class Search:
         for node in self.endings:
             text = seen(node).text(self.asked.sights, self.asked.is_hex)
             alike.setdefault((text, self.failing(node)), []).append(node)
-        endings = tuple(found.Ending(text, len(nodes), nodes[0].slices, what) for (text, what), nodes in alike.items())
+        alike_of = ((text, what, nodes) for (text, what), nodes in alike.items())
+        endings = tuple(found.Ending(text, len(nodes), nodes[0].slices, what, nodes[0].preempted) for text, what, nodes in alike_of)
         within = self.asked.steps if self.counts else None
         differ = self.asked.differ and len(endings) > 1
-        told = found.Found(len(self.nodes), self.slices, self.whole, endings, within, differ)
+        told = found.Found(len(self.nodes), self.slices, self.whole, endings, within, differ, self.level)
         return told, [nodes[0] for nodes in alike.values()]
+
+
+def levels(asked):
+    """The bounds of preemptions that are searched one after another, or that of a search without."""
+    return [None] if asked.preemptions is None else range(asked.preemptions + 1)
 
 
 def ends_on(ends, records):
