@@ -9,13 +9,15 @@ import subprocess
 from .frame import COMPILER, EXAMPLES, GIVEN, TOOLS, Case, is_there, need, need_program, need_rust, need_searcher
 
 SCRIPT = EXAMPLES / "kit" / "test"
-# A search that finds so many endings, of which it writes the files.
+# A search that finds so many endings, each of which it tells at once, and of which it writes the files.
 SEARCH = """#!/bin/sh
 echo "$*" >searched
 while [ "$1" != --write ]; do shift; done
+LEVEL
+for ending in ENDINGS; do echo "found $ending: console \\"$ending\\\\\\\\n\\"; 2 slices"; done
 echo 'states 4 slices 6 WHOLE'
 for ending in ENDINGS; do
-    echo "ending $ending: console \\"$ending\\"; 1 node; 2 slices"
+    echo "ending $ending: console \\"$ending\\\\\\\\n\\"; 1 node; 2 slices"
     echo 'tick 20000' >"$2/ending-$ending.events"
 done
 printf 'COUNTFAILS'
@@ -23,10 +25,20 @@ exit STATUS
 """
 
 
-def search(whole="whole", endings="1", status=0, fails=()):
+# What is told of a level before.
+LEVEL = r"""echo steps count
+echo 'found 1: console "1"; 2 slices; fails: exit'
+echo 'states 2 slices 2 whole preemptions 0'
+echo 'ending 1: console "1"; 1 node; 2 slices'
+echo 1 ending
+echo 'fails: exit in ending 1, 2 slices'
+"""
+
+
+def search(whole="whole", endings="1", status=0, fails=(), level=""):
     """The text of a stand-in for xousorders."""
     count = len(endings.split())
-    values = {"WHOLE": whole, "ENDINGS": endings, "STATUS": str(status), "COUNT": f"{count} ending{'s' * (count != 1)}\\n"}
+    values = {"WHOLE": whole, "ENDINGS": endings, "STATUS": str(status), "COUNT": f"{count} ending{'s' * (count != 1)}\\n", "LEVEL": level}
     values["FAILS"] = "".join(f"fails: {line}\\n" for line in fails)
     text = SEARCH
     for name, value in values.items():
@@ -120,6 +132,18 @@ class Script(Case):
             for number in endings:
                 self.holds_commands(said, f"orders/ending-{number}.events")
 
+    def test_a_search_with_preemptions(self):
+        """The last report is taken: the order that fails there isn't that of a level before."""
+        self.search(endings="1 2", level=LEVEL, whole="whole preemptions 1")
+        status, said = self.start("orders", "mine.img", "orders", "--preemptions", "1")
+        orders = "all orders of at most 1 preemptions (states 4 slices 6 whole preemptions 1)"
+        self.assertEqual((status, said), (0, f"mine.img: no order fails: 2 endings in {orders}\n"))
+        self.search(endings="1 2", level=LEVEL, whole="cut preemptions 1", status=1, fails=["exit in ending 2, 2 slices, 1 preemption"])
+        status, said = self.start("orders", "mine.img", "orders", "--preemptions", "1")
+        lines = said.splitlines()
+        self.assertEqual((status, lines[:3]), (1, ["mine.img: some orders fail", "states 4 slices 6 cut preemptions 1", 'ending 1: console "1\\n"; 1 node; 2 slices']))
+        self.assertEqual([line for line in lines if line.startswith("event file: ")], ["event file: orders/ending-2.events"])
+
     def test_a_search_that_was_cut(self):
         for whole in ("cut", "cut within 100000 steps"):
             self.search(whole=whole, status=10)
@@ -131,7 +155,8 @@ class Script(Case):
         self.search(status=9)
         status, said = self.start("orders", "mine.img", "orders")
         self.assertEqual(status, 2)
-        self.assertIn("xousorders ended with 9", said)
+        self.assertIn("xousorders ended with 9; what it found before is in orders/found\n", said)
+        self.assertIn('found 1: console "1\\n"; 2 slices\n', (self.folder / "orders" / "found").read_text())
 
     def test_a_step_limit(self):
         (self.folder / "told").write_text("1 2.2 byte 69\nend 1 done\n")
