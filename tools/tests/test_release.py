@@ -266,6 +266,7 @@ class Releases(unittest.TestCase):
         self.assertEqual(self.complete("xousim re"), ["resume"])
         self.assertEqual(self.complete("xousim trace re"), [])
         self.assertEqual(self.complete("xousorders image --q"), ["--quantum"])
+        self.assertEqual(self.complete("xousorders image --pre"), ["--preemptions"])
         self.assertIn("--chart", self.complete("xous-view --ch"))
 
     def test_completion_of_zsh(self):
