@@ -8,7 +8,7 @@ import tempfile
 from types import SimpleNamespace
 from unittest import mock
 
-from xous.commands.test_orders import asked_of, parser, search, write_orders
+from xous.commands.test_orders import asked_of, parser, search_levels, write_orders
 from xous.errors import Refusal
 from xous.machine import MOST_STEPS
 from xous.runs import events, fails, found, orders
@@ -35,7 +35,7 @@ def stored():
 
 def stored_plain():
     """Those that see all, and ask for no failures."""
-    return [(words, lines) for words, lines in stored() if not re.search(" --(?:see|hex|fails|one)", words)]
+    return [(words, lines) for words, lines in stored() if not re.search(" --(?:see|hex|fails|one|preemptions)", words)]
 
 
 # A search's lines, and some of other form: which line is exchanged for what.
@@ -145,11 +145,15 @@ def is_read(text):
         return False
 
 
+def lines_of(levels):
+    return [line for told in levels for line in told.lines()]
+
+
 def checks_of_levels():
     """Endings as they are found, and the reports of levels, are read; the last report decides."""
     first, last = found.read_levels(LEVELS.splitlines())
     yield found.read(LEVELS.splitlines()) == last, "the last report is taken"
-    yield [*first.lines(), *last.lines()] == [line for line in LEVELS.splitlines() if not line.startswith(("found", "steps"))], "levels are spelled"
+    yield lines_of([first, last]) == [line for line in LEVELS.splitlines() if not line.startswith(("found", "steps"))], "levels are spelled"
     yield (first.within, first.preemptions, last.within, last.preemptions) == (50, 0, None, 1), f"what levels search: {first}, {last}"
     news = [ending.news(number) for number, ending in enumerate(last.endings, 1)]
     yield news == [line for line in LEVELS.splitlines() if line.startswith("found")][2:], f"endings are spelled as they are found: {news}"
@@ -192,7 +196,7 @@ def checks_of_reading():
     turned = found.Found(26, 38, True, one.endings[::-1], None, True)
     yield list(found.differences(one, turned)) == [], "the order in which endings are told doesn't matter"
     for words, lines in stored():
-        yield found.read(lines).lines() == lines, f"the stored lines of {words}"
+        yield lines_of(found.read_levels(lines)) == lines, f"the stored lines of {words}"
 
 
 # What is seen of an ending.
@@ -441,33 +445,50 @@ def given_of(program, words):
 
 def checks_of_search(program, is_long):
     for words, lines in stored():
-        wanted = found.read(lines)
-        if wanted.states > FEW and not is_long:
+        wanted = found.read_levels(lines)
+        if wanted[-1].states > FEW and not is_long:
             continue
         image, given, _ = given_of(program, words)
         asked = asked_of(given)
-        told, endings = search(program, str(image), asked)
-        yield told == wanted, f"orders of {words}: {list(found.differences(wanted, told)) or 'endings in another order'}"
+        levels = list(search_levels(program, str(image), asked))
+        told = [told for told, _ in levels]
+        yield told == wanted, f"orders of {words}: {differences(wanted, told) or 'endings in another order'}"
         with tempfile.TemporaryDirectory() as folder:
-            write_orders(folder, endings)
-            yield from checks_of_orders(program, image, asked, told, folder, words)
+            write_orders(folder, levels[-1][1])
+            yield from checks_of_orders(program, image, asked, told[-1], folder, words)
+
+
+def differences(wanted, told):
+    """In what the levels of two searches differ."""
+    more = [] if len(wanted) == len(told) else [f"{len(told)} levels in place of {len(wanted)}"]
+    return [*more, *(text for pair in zip(wanted, told) for text in found.differences(*pair))]
+
+
+def checks_of_told(program, searcher, words, wanted):
+    """The program xousorders tells these levels, and the event files that it writes lead to the endings of the last."""
+    image, given, options = given_of(program, words)
+    with tempfile.TemporaryDirectory() as folder:
+        command = [searcher, str(image), *options, "--write", folder]
+        ran = subprocess.run(command, capture_output=True, text=True, check=False)
+        good = ran.returncode == wanted[-1].status(asked_of(given).asks_for_failures()) and is_read(ran.stdout)
+        yield good, f"xousorders {words}: status {ran.returncode}: {ran.stdout[-200:]}{ran.stderr}"
+        if good:
+            told = found.read_levels(ran.stdout.splitlines())
+            yield not differences(wanted, told), f"xousorders {words}: {differences(wanted, told)}"
+            yield from checks_of_orders(program, image, asked_of(given), told[-1], folder, f"xousorders {words}")
 
 
 def checks_of_searcher(program, searcher):
-    """The program xousorders tells the same as is stored, and the event files that it writes lead to the endings."""
+    """The program xousorders tells the same as is stored."""
     for words, lines in stored():
-        image, given, options = given_of(program, words)
-        wanted = found.read(lines)
-        with tempfile.TemporaryDirectory() as folder:
-            command = [searcher, str(image), *options, "--write", folder]
-            ran = subprocess.run(command, capture_output=True, text=True, check=False)
-            if ran.returncode != wanted.status(asked_of(given).asks_for_failures()) or not is_read(ran.stdout):
-                yield False, f"xousorders {words}: status {ran.returncode}: {ran.stdout[-200:]}{ran.stderr}"
-                continue
-            told = found.read(ran.stdout.splitlines())
-            differing = list(found.differences(wanted, told))
-            yield not differing, f"xousorders {words}: {differing}"
-            yield from checks_of_orders(program, image, asked_of(given), told, folder, f"xousorders {words}")
+        if has_option(searcher, words):
+            yield from checks_of_told(program, searcher, words, found.read_levels(lines))
+
+
+def has_option(searcher, words):
+    """Whether the program knows the options of these words that it didn't always have."""
+    usage = subprocess.run([searcher], capture_output=True, text=True, check=False).stderr
+    return all(word in usage for word in words.split() if word in ("--preemptions", "--seconds"))
 
 
 # The words of a call, how it ends, and what it writes.
@@ -475,7 +496,7 @@ def checks_of_searcher(program, searcher):
 LOST = "{examples}/orders/lost.image"
 TIMER = "{examples}/timer/image"
 CALLS = (
-    # the words, the status, the first line of the output, and the text on standard error
+    # the words, the status, the first line of the report, and the text on standard error
     ("", 2, "", "usage: "),
     ("--help", 2, "", "usage: "),
     ("--quantun", 2, "", "usage: "),
@@ -530,7 +551,7 @@ FILES = {"bad.events": b"tick 1\nnothing\n", "empty.events": b"", "good.events":
 
 
 def checks_of_calls(searcher):
-    """Each call ends with its status, and writes its first line and its text on standard error."""
+    """Each call ends with its status, and writes the first line of its report and its text on standard error."""
     with tempfile.TemporaryDirectory() as folder:
         for name, written in FILES.items():
             pathlib.Path(folder, name).write_bytes(written)
@@ -538,7 +559,7 @@ def checks_of_calls(searcher):
             command = [word.format(examples=EXAMPLES) for word in words.replace("--write=", "--write EMPTY").split()]
             command = ["" if word == "EMPTY" else word for word in command]
             ran = subprocess.run([searcher, *command], capture_output=True, text=True, check=False, cwd=folder)
-            first = ran.stdout.splitlines()[0] if ran.stdout else ""
+            first = next((each for each in ran.stdout.splitlines() if each.startswith("states ")), "")
             told = f"xousorders {words}: status {ran.returncode}: {first!r}, {ran.stderr!r}"
             yield ran.returncode == status and re.fullmatch(line, first) and ran.stderr.startswith(text), told
         with open("/dev/full", "wb") as full:
