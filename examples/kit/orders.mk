@@ -4,7 +4,7 @@
 #                    thread waits for an answer or a thread for good
 #
 # It names the event files of these orders, and the commands that look into them. SEARCH has more words for the search
-# (docs/orders.md), such as `--quantum 1` for threads of one process that share memory, or `--fails differ` for one ending in all
+# (docs/orders.md), such as `--preemptions 1` for threads of one process that share memory, or `--fails differ` for one ending in all
 # orders. STEPS is the step limit of a run, if it isn't that of xousim.
 
 SEARCH ?=
