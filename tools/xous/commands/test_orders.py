@@ -123,8 +123,11 @@ def main(line: list[str]) -> int:
     if not os.access(program, os.X_OK):
         raise Refusal(f"{given.program}: no program that can be started")
     asked = asked_of(given)
+    levels = []
     for told, endings in search_levels(program, given.search, asked):
         print("\n".join(told.lines()), flush=True)
+        levels.append((told, endings))
+    told, endings = levels[-1]
     if given.write:
         write_orders(given.write, endings)
     status = told.status(asked.asks_for_failures())
