@@ -137,11 +137,13 @@ class Script(Case):
         self.search(endings="1 2", level=LEVEL, whole="whole preemptions 1")
         status, said = self.start("orders", "mine.img", "orders", "--preemptions", "1")
         orders = "all orders of at most 1 preemptions (states 4 slices 6 whole preemptions 1)"
-        self.assertEqual((status, said), (0, f"mine.img: no order fails: 2 endings in {orders}\n"))
+        first = 'found 1: console "1"; 2 slices; fails: exit\n'
+        self.assertEqual((status, said), (0, f"{first}mine.img: no order fails: 2 endings in {orders}\n"))
         self.search(endings="1 2", level=LEVEL, whole="cut preemptions 1", status=1, fails=["exit in ending 2, 2 slices, 1 preemption"])
         status, said = self.start("orders", "mine.img", "orders", "--preemptions", "1")
         lines = said.splitlines()
-        self.assertEqual((status, lines[:3]), (1, ["mine.img: some orders fail", "states 4 slices 6 cut preemptions 1", 'ending 1: console "1\\n"; 1 node; 2 slices']))
+        shown = ["mine.img: some orders fail", "states 4 slices 6 cut preemptions 1", 'ending 1: console "1\\n"; 1 node; 2 slices']
+        self.assertEqual((status, lines[:4]), (1, [first.strip(), *shown]))
         self.assertEqual([line for line in lines if line.startswith("event file: ")], ["event file: orders/ending-2.events"])
 
     def test_a_search_that_was_cut(self):
