@@ -1,22 +1,25 @@
 -- A move that is played leads where it leads.
-use Rattle.std.proofs.Common.{◌≡◌, ℕ, Bool, true, false, ◌++◌, Some, None, is_some, IsSome, refl, sym, ap, ◌∙◌}
+use Rattle.std.proofs.Common.{◌≡◌, ◌<◌, ◌+◌, ℕ, Bool, true, false, ◌++◌, Some, None, is_some, IsSome, refl, sym, ap, ◌∙◌, arith}
 use Rattle.std.specs.Prelude.{◌&&◌, ◌==◌, not, slice_get, if◌then◌else◌}
 use Rattle.std.specs.Option.{option_map}
 use Rattle.std.proofs.lemmas.Bool.{eq-eqb, false≢true}
 use Rattle.xk_base.specs.declared.events.Event.{Event}
 use Rattle.xk_base.specs.declared.events.Event.TheVariants.{Irq as IrqEvent, Kill, Pick, Tick}
 use Rattle.xk_base.specs.declared.ids.ThreadId.{ThreadId}
+use Rattle.xk_base.specs.declared.limits.TheConstants.{STEP_LIMIT}
 use Rattle.machine_model.specs.State.Machine.{Machine}
 use Rattle.machine_model.specs.State.Order.{ready_at}
 use Rattle.machine_model.specs.Stepping.Step.{Recorded}
-use Rattle.order_model.specs.Slices.{turned}
+use Rattle.order_model.specs.Slices.{slice, turned}
 use Rattle.xk_kernel.specs.Stepping.{event_done}
-use Rattle.order_model.specs.declared.moves.Move.TheVariants.{Once, Slice}
+use Rattle.order_model.specs.declared.moves.Move.TheVariants.{Once, Preempted, Slice}
 use Rattle.order_model.specs.Moves.{Asked, Point, behind, bytes_of, is_at_bound, is_slice, leads, may_come, most_steps, slice_at, what_comes}
-use Rattle.order_model.specs.Moves.{with_come}
+use Rattle.order_model.specs.Moves.{with_come, with_preemption}
 use Rattle.order_model.specs.Exits.{exit_in, kept_ends}
 use Rattle.order_model.proofs.ExitLemmas.{exits_on-told}
-use Rattle.order_model.proofs.MoveLemmas.{led, may_come_there, some_mapped}
+use Rattle.order_model.proofs.MoveLemmas.{led, may_come_there, preempted_leads, preempted_may, some_mapped}
+use Rattle.order_model.proofs.SliceLemmas.{slice_at_most}
+use Rattle.order_player.specs.Runs.{IsNearLimit}
 use Rattle.order_player.specs.Steps.{IsSlice, Shown, Told}
 
 -- ---- tests
@@ -29,30 +32,54 @@ all_three false b c p q r = absurd (false≢true p)
 
 -- ---- slices
 
--- the point where a machine is, with what was told and which events came
-abbrev pub point_at : Machine → Told → (ℕ → Bool) → Point
-point_at m told came = record { state = m; console = told.console; came = came; exits = exit_in told.ends }
+-- the point where a machine is, with what was told, which events came, and how many slices were preempted
+abbrev pub point_at : Machine → Told → (ℕ → Bool) → ℕ → Point
+point_at m told came preempted =
+    record { state = m; console = told.console; came = came; exits = exit_in told.ends; preempted = preempted }
 
-module _ (asked : Asked) (old new : Shown) (came : ℕ → Bool) (who : ThreadId) (steps : ℕ) where
+module _ (asked : Asked) (old new : Shown) (came : ℕ → Bool) (preempted : ℕ) (who : ThreadId) (done : ℕ) where
   abbrev p : Point
-  p = point_at old.machine old.told came
+  p = point_at old.machine old.told came preempted
 
-  pub slice_leads : (after : ℕ → Bool) → ready_at old.machine who ≡ true → is_at_bound asked.bound old.machine ≡ false
-      → IsSlice asked.exits (most_steps asked old.machine) who old steps new → after ≡ came
-      → leads asked p (Slice who steps) ≡ Some (point_at new.machine new.told after)
-  unfolding leads
-  slice_leads after ready left played same =
-      let done = eq-eqb (slice_at asked who old.machine).done steps (sym played.done) in
-      let may : is_slice asked who steps old.machine ≡ true =
-      all_three (ready_at old.machine who) (is_at_bound asked.bound old.machine) ((slice_at asked who old.machine).done == steps) ready left done in
+  -- a slice that was played is done there
+  behind_slice : (quantum : ℕ) (after : ℕ → Bool) → IsSlice asked.exits quantum who old done new → after ≡ came
+      → behind asked p (turned (slice quantum who old.machine)) ≡ point_at new.machine new.told after preempted
+  behind_slice quantum after played same =
       let told : Told = record {
-        console = old.told.console ++ bytes_of (slice_at asked who old.machine).records;
-        ends = old.told.ends ++ kept_ends asked.exits (slice_at asked who old.machine).records;
+        console = old.told.console ++ bytes_of (slice quantum who old.machine).records;
+        ends = old.told.ends ++ kept_ends asked.exits (slice quantum who old.machine).records;
       } in
-      let exits = exits_on-told old.told.ends (kept_ends asked.exits (slice_at asked who old.machine).records) in
+      let exits = exits_on-told old.told.ends (kept_ends asked.exits (slice quantum who old.machine).records) in
+      (λ i. record { state = sym played.machine i; console = told.console; came = sym same i; exits = exits i; preempted = preempted })
+      ∙ ap (λ (t : Told). point_at new.machine t after preempted) (sym played.told)
+
+  pub slice_leads : (after : ℕ → Bool) (later : ℕ) → ready_at old.machine who ≡ true → is_at_bound asked.bound old.machine ≡ false
+      → IsSlice asked.exits (most_steps asked old.machine) who old done new → after ≡ came → later ≡ preempted
+      → leads asked p (Slice who done) ≡ Some (point_at new.machine new.told after later)
+  unfolding leads
+  slice_leads after later ready left played same count =
+      let has = eq-eqb (slice_at asked who old.machine).done done (sym played.done) in
+      let may : is_slice asked who done old.machine ≡ true =
+      all_three (ready_at old.machine who) (is_at_bound asked.bound old.machine) ((slice_at asked who old.machine).done == done) ready left has in
       ap (λ b. if b then Some (behind asked p (turned (slice_at asked who old.machine))) else None) may
-      ∙ ((λ i. Some (record { state = sym played.machine i; console = told.console; came = sym same i; exits = exits i }))
-      ∙ ap (λ (t : Told). Some (point_at new.machine t after)) (sym played.told))
+      ∙ (ap Some (behind_slice (most_steps asked old.machine) after played same)
+      ∙ ap (λ (n : ℕ). Some (point_at new.machine new.told after n)) (sym count))
+
+  pub preemption_leads : (steps : ℕ) (after : ℕ → Bool) (later : ℕ) → IsSome (leads asked p (Preempted who steps))
+      → IsSlice asked.exits steps who old done new → after ≡ came → later ≡ preempted + 1
+      → leads asked p (Preempted who steps) ≡ Some (point_at new.machine new.told after later)
+  preemption_leads steps after later may played same count =
+      preempted_leads asked p who steps (preempted_may asked p who steps may)
+      ∙ (ap (λ (q : Point). Some (with_preemption q)) (behind_slice steps after played same)
+      ∙ ap (λ (n : ℕ). Some (point_at new.machine new.told after n)) (sym count))
+
+-- with as many steps as it is to be preempted after, a run isn't near the limit where one with a whole slice isn't
+pub preempted_near : (asked : Asked) (p : Point) (who : ThreadId) (steps : ℕ) → IsSome (leads asked p (Preempted who steps))
+    → STEP_LIMIT < p.state.steps + steps → IsNearLimit asked p
+preempted_near asked p who steps may beyond =
+    let fewer = (preempted_may asked p who steps may).fewer in
+    let most = slice_at_most (most_steps asked p.state) who p.state in
+    omega (arith, beyond, fewer, most)
 
 -- ---- events that may come
 

@@ -17,6 +17,7 @@ point_of S kernel trail = record {
   console = trail.console.items;
   came = came_of trail.came.items;
   exits = exit_in trail.ends.items;
+  preempted = trail.preempted;
 }
 
 -- with a slice of as many steps as it may have there, a run has more than it can have

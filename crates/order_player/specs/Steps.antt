@@ -21,6 +21,11 @@ told_in trail = record { console = trail.console.items; ends = trail.ends.items 
 abbrev pub told_on : Bool → Told → List Rec → Told
 told_on keeps told records = record { console = told.console ++ bytes_of records; ends = told.ends ++ kept_ends keeps records }
 
+-- which events came, and how many moves were preempted, stays
+pub record KeepsMoves (old new : Trail) : Type 0 where
+  pub came : new.came ≡ old.came
+  pub preempted : new.preempted ≡ old.preempted
+
 -- what a run shows: its state, and what its records told
 pub record Shown : Type 0 where
   pub machine : Machine

@@ -1,16 +1,19 @@
 //! Moves are played on a kernel.
 
-ghost use Rattle.std.specs.Prelude.{◌≡◌, ◌≢◌, ◌<◌, IfOk, IsSome, OnOk, Err, Some, false, length, set, slice_get, true};
+ghost use Rattle.std.specs.Prelude.{◌≡◌, ◌≢◌, ◌<◌, ◌+◌, IfOk, IsSome, OnOk, Err, Some, false, length, set, slice_get, true};
 ghost use Rattle.xk_base.specs.Outside.{Rose};
+ghost use Rattle.xk_base.specs.declared.limits.TheConstants.{STEP_LIMIT};
 ghost use Rattle.machine_model.specs.State.Order.{ready_at};
 ghost use Rattle.vm_memory.specs.Memory.{store_of};
 ghost use Rattle.xk_kernel.specs.Knowing.{IsTrusted};
 ghost use Rattle.xk_kernel.specs.Sound.{IsSound, IsUsable, Keeps};
 ghost use Rattle.xk_kernel.specs.State.{machine_of};
 ghost use Rattle.order_model.specs.Moves.{is_at_bound, leads, leads_by};
-ghost use Rattle.order_model.specs.declared.moves.Move.TheVariants.{Once, Slice};
+ghost use Rattle.order_model.specs.declared.moves.Move.TheVariants.{Once, Preempted, Slice};
 ghost use Rattle.order_model.specs.Asking.{asked_of, bound_of};
+ghost use Rattle.order_player.specs.Played.{shown};
 ghost use Rattle.order_player.specs.Runs.{IsNearLimit, MeetsLimit, point_of};
+ghost use Rattle.order_player.specs.Steps.{IsSlice, KeepsMoves};
 
 use crate::slices::{SliceFault, play_slice};
 use crate::told::push_told;
@@ -31,6 +34,36 @@ pub enum MoveFault {
     Steps,
 }
 
+/// Plays a slice of so many steps at most, if a run may have as many.
+fn play_within<W: SwapStore>(
+    kernel: &mut Kernel<W>,
+    who: ThreadId,
+    most: u32,
+    keeps: bool,
+    trail: &mut Trail,
+) -> Result<u32, MoveFault>
+    requires sound { IsSound W.SwapStore kernel.old }
+    requires usable { IsUsable kernel.old }
+    requires trusted { IsTrusted W.SwapStore kernel.old }
+    ensures plays { IfOk result (λ steps. IsSlice keeps most who (shown W.SwapStore kernel.old trail.old) steps
+        (shown W.SwapStore kernel.new trail.new)) }
+    ensures moves { KeepsMoves trail.old trail.new }
+    ensures sound { IsSound W.SwapStore kernel.new }
+    ensures usable { OnOk result (IsUsable kernel.new) }
+    ensures swap { result ≡ Err MoveFault.Swap → Rose (W.faults (store_of kernel.old.mem)) (W.faults (store_of kernel.new.mem)) }
+    ensures steps { result ≡ Err MoveFault.Steps → STEP_LIMIT < (machine_of W.held kernel.old).steps + most }
+    ensures keeps { Keeps W.SwapStore kernel.old kernel.new }
+{
+    if u64::from(kernel.steps()) + u64::from(most) > u64::from(STEP_LIMIT) {
+        return Err(MoveFault::Steps);
+    }
+    match play_slice(kernel, who, most, keeps, trail) {
+        Ok(steps) => Ok(steps),
+        Err(SliceFault::Swap) => Err(MoveFault::Swap),
+        Err(SliceFault::Memory) => Err(MoveFault::Memory),
+    }
+}
+
 /// Plays the slice of a thread that is Ready, and answers how many steps it has.
 pub fn play_thread<W: SwapStore>(
     kernel: &mut Kernel<W>,
@@ -46,7 +79,7 @@ pub fn play_thread<W: SwapStore>(
     ensures leads { let old = point_of W.SwapStore kernel.old trail.old in
         let new = point_of W.SwapStore kernel.new trail.new in
         IfOk result (λ steps. leads (asked_of orders.now) old (Slice who steps) ≡ Some new) }
-    ensures came { trail.new.came ≡ trail.old.came }
+    ensures moves { KeepsMoves trail.old trail.new }
     ensures sound { IsSound W.SwapStore kernel.new }
     ensures usable { OnOk result (IsUsable kernel.new) }
     ensures swap { result ≡ Err MoveFault.Swap → Rose (W.faults (store_of kernel.old.mem)) (W.faults (store_of kernel.new.mem)) }
@@ -54,13 +87,48 @@ pub fn play_thread<W: SwapStore>(
     ensures keeps { Keeps W.SwapStore kernel.old kernel.new }
 {
     let most = orders.most_steps(kernel.steps());
-    if u64::from(kernel.steps()) + u64::from(most) > u64::from(STEP_LIMIT) {
-        return Err(MoveFault::Steps);
-    }
-    match play_slice(kernel, who, most, orders.exits, trail) {
+    match play_within(kernel, who, most, orders.exits, trail) {
         Ok(steps) => Ok(steps),
-        Err(SliceFault::Swap) => Err(MoveFault::Swap),
-        Err(SliceFault::Memory) => Err(MoveFault::Memory),
+        Err(fault) => Err(fault),
+    }
+}
+
+/// One more than that, of so many at most.
+fn one_more(count: u32, most: u32) -> u32
+    requires { count < most }
+    ensures { result ≡ count + 1 }
+{
+    count + 1
+}
+
+/// Plays the slice of a thread up to the step after which it is preempted, where it may be.
+fn play_preempted<W: SwapStore>(
+    kernel: &mut Kernel<W>,
+    orders: &Orders,
+    who: ThreadId,
+    steps: u32,
+    trail: &mut Trail,
+) -> Result<(), MoveFault>
+    requires sound { IsSound W.SwapStore kernel.old }
+    requires usable { IsUsable kernel.old }
+    requires trusted { IsTrusted W.SwapStore kernel.old }
+    requires leads { IsSome (leads (asked_of orders.now) (point_of W.SwapStore kernel.old trail.old) (Preempted who steps)) }
+    ensures leads { let old = point_of W.SwapStore kernel.old trail.old in
+        let new = point_of W.SwapStore kernel.new trail.new in
+        OnOk result (leads (asked_of orders.now) old (Preempted who steps) ≡ Some new) }
+    ensures came { trail.new.came ≡ trail.old.came }
+    ensures sound { IsSound W.SwapStore kernel.new }
+    ensures usable { OnOk result (IsUsable kernel.new) }
+    ensures swap { result ≡ Err MoveFault.Swap → Rose (W.faults (store_of kernel.old.mem)) (W.faults (store_of kernel.new.mem)) }
+    ensures steps { result ≡ Err MoveFault.Steps → IsNearLimit (asked_of orders.now) (point_of W.SwapStore kernel.old trail.old) }
+    ensures keeps { Keeps W.SwapStore kernel.old kernel.new }
+{
+    match play_within(kernel, who, steps, orders.exits, trail) {
+        Ok(_) => {
+            trail.preempted = one_more(trail.preempted, orders.preemptions);
+            Ok(())
+        }
+        Err(fault) => Err(fault),
     }
 }
 
@@ -136,6 +204,7 @@ pub fn play_move<W: SwapStore>(
             Ok(_) => Ok(()),
             Err(fault) => Err(fault),
         },
+        Move::Preempted(who, steps) => play_preempted(kernel, orders, who, steps, trail),
         Move::Once(number) => play_once(kernel, orders, number, trail),
     }
 }

@@ -8,7 +8,7 @@ ghost use Rattle.xk_kernel.specs.Knowing.{IsTrusted};
 ghost use Rattle.xk_kernel.specs.Sound.{IsSound, IsUsable, Keeps};
 ghost use Rattle.xk_kernel.specs.State.{machine_of};
 ghost use Rattle.order_player.specs.Played.{IsFewer, PlaysSome, part_left, shown};
-ghost use Rattle.order_player.specs.Steps.{AreSteps, IsSlice};
+ghost use Rattle.order_player.specs.Steps.{AreSteps, IsSlice, KeepsMoves};
 
 use crate::told::push_told;
 use order_model::Trail;
@@ -50,7 +50,7 @@ fn play_loud<W: SwapStore>(
     ensures sound { IsSound W.SwapStore kernel.new }
     ensures usable { OnOk result (IsUsable kernel.new) }
     ensures swap { result ≡ Err SliceFault.Swap → Rose (W.faults (store_of kernel.old.mem)) (W.faults (store_of kernel.new.mem)) }
-    ensures came { trail.new.came ≡ trail.old.came }
+    ensures moves { KeepsMoves trail.old trail.new }
     ensures keeps { Keeps W.SwapStore kernel.old kernel.new }
 {
     match kernel.step() {
@@ -85,7 +85,7 @@ fn play_some<W: SwapStore>(
     ensures sound { IsSound W.SwapStore kernel.new }
     ensures usable { OnOk result (IsUsable kernel.new) }
     ensures swap { result ≡ Err SliceFault.Swap → Rose (W.faults (store_of kernel.old.mem)) (W.faults (store_of kernel.new.mem)) }
-    ensures came { trail.new.came ≡ trail.old.came }
+    ensures moves { KeepsMoves trail.old trail.new }
     ensures keeps { Keeps W.SwapStore kernel.old kernel.new }
 {
     let Ok(quiet) = kernel.run_quiet(most) else {
@@ -113,7 +113,7 @@ fn play_steps<W: SwapStore>(
     ensures sound { IsSound W.SwapStore kernel.new }
     ensures usable { OnOk result (IsUsable kernel.new) }
     ensures swap { result ≡ Err SliceFault.Swap → Rose (W.faults (store_of kernel.old.mem)) (W.faults (store_of kernel.new.mem)) }
-    ensures came { trail.new.came ≡ trail.old.came }
+    ensures moves { KeepsMoves trail.old trail.new }
     ensures keeps { Keeps W.SwapStore kernel.old kernel.new }
 {
     let mut left = most;
@@ -144,7 +144,7 @@ pub fn play_slice<W: SwapStore>(
     ensures sound { IsSound W.SwapStore kernel.new }
     ensures usable { OnOk result (IsUsable kernel.new) }
     ensures swap { result ≡ Err SliceFault.Swap → Rose (W.faults (store_of kernel.old.mem)) (W.faults (store_of kernel.new.mem)) }
-    ensures came { trail.new.came ≡ trail.old.came }
+    ensures moves { KeepsMoves trail.old trail.new }
     ensures keeps { Keeps W.SwapStore kernel.old kernel.new }
 {
     kernel.event_start(Event::Pick(who.pid, who.tid));

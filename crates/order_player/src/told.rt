@@ -2,7 +2,7 @@
 
 ghost use Rattle.std.specs.Prelude.{◌≡◌, ◌++◌, OnOk};
 ghost use Rattle.order_model.specs.Moves.{bytes_of};
-ghost use Rattle.order_player.specs.Steps.{told_in, told_on};
+ghost use Rattle.order_player.specs.Steps.{KeepsMoves, told_in, told_on};
 
 use order_model::{Trail, push_ends};
 use std::alloc::AllocError;
@@ -23,7 +23,7 @@ fn push_bytes(records: &[Rec], console: &mut Vec<u8>) -> Result<(), AllocError>
 /// What went to the console, and where it is kept which processes ended, is put behind what was told before.
 pub(crate) fn push_told(keeps: bool, records: &[Rec], trail: &mut Trail) -> Result<(), AllocError>
     ensures told { OnOk result (told_in trail.new ≡ told_on keeps (told_in trail.old) records.now) }
-    ensures came { trail.new.came ≡ trail.old.came }
+    ensures moves { KeepsMoves trail.old trail.new }
 {
     push_bytes(records, &mut trail.console)?;
     push_ends(keeps, records, &mut trail.ends)

@@ -28,7 +28,7 @@ mark-requires g c =
     let may = may_come_there (asked_of c.args.orders.now) p c.args.number c.requires.leads in
     let within = slice_get_within c.args.orders.now.once.items c.args.number may.event may.its in
     let same : length c.push_told.new.trail.came.items ≡ length c.args.trail.now.came.items =
-    λ i. length (c.push_told.ensures.came i).items in
+    λ i. length (c.push_told.ensures.moves.came i).items in
     omega (arith, within, same, c.requires.all)
 
 pub returns-clause-leads : goal.returns-clause-leads
@@ -44,7 +44,8 @@ returns-clause-leads g c =
     let more = c.in-Ok.ensures.told ∙ ap (λ (rs : List Rec). told_on asked.exits told rs) (c.last.ensures ∙ does.records) in
     let exits = exits_on-told told.ends (kept_ends asked.exits done.records) in
     let came : came_of c.mark.new.came.items ≡ put_at nat_eq p.came c.args.number true =
-    ap came_of (c.mark.ensures ∙ (λ i. set (c.push_told.ensures.came i).items c.args.number true)) ∙ (λ i q. came_set c.args.trail.now.came.items c.args.number low q i) in
+    ap came_of (c.mark.ensures ∙ (λ i. set (c.push_told.ensures.moves.came i).items c.args.number true)) ∙ (λ i q. came_set c.args.trail.now.came.items c.args.number low q i) in
+    let count = c.push_told.ensures.moves.preempted in
     once_leads asked p c.args.number c.event_of.result done c.event_of.ensures refl c.requires.leads
-    ∙ ((λ i. Some (record { state = sym does.machine i; console = p.console ++ bytes_of done.records; came = sym came i; exits = exits i }))
-    ∙ ap (λ (t : Told). Some (point_at (machine_of g.W.SwapStore.held c.event_start.new.self) t (came_of c.mark.new.came.items))) (sym more))
+    ∙ ((λ i. Some (record { state = sym does.machine i; console = p.console ++ bytes_of done.records; came = sym came i; exits = exits i; preempted = sym count i }))
+    ∙ ap (λ (t : Told). Some (point_at (machine_of g.W.SwapStore.held c.event_start.new.self) t (came_of c.mark.new.came.items) c.push_told.new.trail.preempted)) (sym more))

@@ -32,7 +32,10 @@ steps-preserved g c =
       few = omega (arith, counts, c.steps.invariant.few);
       sound = c.play_some.ensures.sound;
       usable = c.in_ok-rest.ensures.usable;
-      came = c.play_some.ensures.came ∙ c.steps.invariant.came;
+      moves = record {
+        came = c.play_some.ensures.moves.came ∙ c.steps.invariant.moves.came;
+        preempted = c.play_some.ensures.moves.preempted ∙ c.steps.invariant.moves.preempted;
+      };
       keeps = kept_after g.W.SwapStore c.args.kernel.now c.steps.kernel c.play_some.new.kernel c.steps.invariant.keeps c.play_some.ensures.keeps;
     }
 

@@ -1,8 +1,8 @@
-use Rattle.std.proofs.Common.{◌≡◌, ◌≤◌, ◌+◌, ℕ}
+use Rattle.std.proofs.Common.{◌≤◌, ◌+◌, ℕ}
 use Rattle.xk_kernel.specs.Knowing.{IsTrusted}
 use Rattle.xk_kernel.specs.Sound.{IsSound, IsUsable, Keeps}
 use Rattle.order_player.specs.Played.{shown}
-use Rattle.order_player.specs.Steps.{AreSteps, Shown}
+use Rattle.order_player.specs.Steps.{AreSteps, KeepsMoves, Shown}
 use Rattle.order_player.proofs.slices.play_steps.Given as goal
 
 -- wherever the rest of the slice leads, all of it leads
@@ -15,7 +15,7 @@ invariant-steps g l = record {
   few : l.left + l.kernel.steps ≤ l.most + l.fn.kernel.steps;
   sound : IsSound g.W.SwapStore l.kernel;
   usable : IsUsable l.kernel;
-  came : l.trail.came ≡ l.fn.trail.came;
+  moves : KeepsMoves l.fn.trail l.trail;
   keeps : Keeps g.W.SwapStore l.fn.kernel l.kernel;
 }
 
