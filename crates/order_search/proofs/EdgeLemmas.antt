@@ -1,9 +1,9 @@
 -- Edges by choices, one after another; and by all choices at a point, those that leave its node.
-use Rattle.std.proofs.Common.{◌≡◌, ◌<◌, ◌+◌, ℕ, suc, List, [], ◌∷◌, ◌++◌, length, take, Some, refl, sym, ap, subst, ◌∙◌, arith}
-use Rattle.std.specs.Prelude.{get_or, slice_get}
+use Rattle.std.proofs.Common.{◌≡◌, ◌<◌, ◌+◌, ℕ, suc, List, [], ◌∷◌, ◌++◌, length, take, Some, refl, sym, ap, subst, ◌∙◌, append_assoc, arith}
+use Rattle.std.specs.Prelude.{get_or}
 use Rattle.std.proofs.Math.Seq.{take-suc}
 use Rattle.std.proofs.lemmas.List.{map-append}
-use Rattle.std.proofs.lemmas.Option.{none-some, same_Some}
+use Rattle.std.proofs.lemmas.Option.{same_Some}
 use Rattle.std.proofs.lemmas.List.Elements.{All-append, All-cons, All-nil}
 use Rattle.order_model.specs.declared.moves.Move.{Move}
 use Rattle.order_model.specs.Moves.{Asked, Point, leads, leads_by}
@@ -34,25 +34,24 @@ module _ {Key : Type 0} (IsKey : Point → Key → Type 0) (asked : Asked) (p : 
       } in
       subst E (sym there) here
 
-  -- the edge by the next of these choices
-  pub next_edge : (choices : List Choice) (k : ℕ) (edges more : List (Successor Move Key)) (edge : Successor Move Key) (d : Choice)
-      → k < length choices → AreEdgesBy IsKey asked p (take k choices) edges → IsEdge IsKey asked p edge
-      → choice_of edge.label ≡ get_or choices k d → more ≡ edges ++ edge ∷ [] → AreEdgesBy IsKey asked p (take (k + 1) choices) more
-  next_edge choices k edges more edge d low by is same there =
+  -- the edge by the next of these choices, behind those by others
+  pub next_edge : (before choices : List Choice) (k : ℕ) (edges more : List (Successor Move Key)) (edge : Successor Move Key) (d : Choice)
+      → k < length choices → AreEdgesBy IsKey asked p (before ++ take k choices) edges → IsEdge IsKey asked p edge
+      → choice_of edge.label ≡ get_or choices k d → more ≡ edges ++ edge ∷ []
+      → AreEdgesBy IsKey asked p (before ++ take (k + 1) choices) more
+  next_edge before choices k edges more edge d low by is same there =
       let E : List Choice → Type 0 = λ cs. AreEdgesBy IsKey asked p cs more in
       let next : k + 1 ≡ suc k = omega arith in
       let further : take (k + 1) choices ≡ take k choices ++ get_or choices k d ∷ [] =
       ap (λ (n : ℕ). take n choices) next ∙ take-suc choices k d low in
-      subst E (sym further) (edge_added (take k choices) (get_or choices k d) edges more edge by is same there)
+      let behind : before ++ take (k + 1) choices ≡ (before ++ take k choices) ++ get_or choices k d ∷ [] =
+      ap (λ (cs : List Choice). before ++ cs) further ∙ sym (append_assoc before (take k choices) (get_or choices k d ∷ [])) in
+      subst E (sym behind) (edge_added (before ++ take k choices) (get_or choices k d) edges more edge by is same there)
 
-  -- the edge by the first of these choices
-  pub first_edge : (choices : List Choice) (first : Choice) (edges more : List (Successor Move Key)) (edge : Successor Move Key) (d : Choice)
-      → Some first ≡ slice_get choices 0 → edges ≡ [] → IsEdge IsKey asked p edge → choice_of edge.label ≡ first → more ≡ edges ++ edge ∷ []
-      → AreEdgesBy IsKey asked p (take 1 choices) more
-  first_edge [] first edges more edge d at none is same there = absurd (none-some first (sym at))
-  first_edge (choice ∷ choices) first edges more edge d at none is same there =
-      next_edge (choice ∷ choices) 0 edges more edge d (omega arith) (no_edges edges none) is
-      (same ∙ same_Some first choice at) there
+  -- an edge alone
+  pub one_edge : (choice : Choice) (none more : List (Successor Move Key)) (edge : Successor Move Key) → none ≡ []
+      → IsEdge IsKey asked p edge → choice_of edge.label ≡ choice → more ≡ none ++ edge ∷ [] → AreEdgesBy IsKey asked p (choice ∷ []) more
+  one_edge choice none more edge empty is same there = edge_added [] choice none more edge (no_edges none empty) is same there
 
 -- an edge that was found at the end of an order
 pub edge_of : {Key : Type 0} (IsKey : Point → Key → Type 0) (asked : Asked) (start : Point) (order : List Move) (p here next : Point)

@@ -1,6 +1,6 @@
 -- The key of the node of a run.
-use Rattle.std.proofs.Common.{◌≡◌, ◌<◌, ◌≤◌, ◌+◌, ◌∙◌, ℕ, suc, Bool, true, false, List, [], ◌∷◌, ◌++◌, length, take, Option, Some, None, is_some, refl, sym, ap, subst, arith}
-use Rattle.std.specs.Int.{from_bool}
+use Rattle.std.proofs.Common.{◌≡◌, ◌<◌, ◌≤◌, ◌+◌, ◌^◌, ◌∙◌, ℕ, suc, Bool, true, false, List, [], ◌∷◌, ◌++◌, length, take, Option, Some, None, is_some, refl, sym, ap, subst, arith}
+use Rattle.std.specs.Int.{from_bool, to_le_bytes, w32}
 use Rattle.std.specs.Prelude.{get_or, map}
 use Rattle.std.proofs.Math.Seq.{take-suc}
 use Rattle.std.specs.List.{flat_map}
@@ -11,7 +11,7 @@ use Rattle.machine_model.specs.Runs.Matched.{Matched}
 use Rattle.machine_model.specs.State.Machine.{Machine}
 use Rattle.order_search.specs.Keys.{IsToldOf, came_byte, came_list, exits_bytes, exit_bytes, has_bound}
 use Rattle.order_model.specs.declared.exits.Exit.{Exit}
-use Rattle.order_model.specs.Moves.{Asked}
+use Rattle.order_model.specs.Moves.{Asked, Point}
 use Rattle.order_model.specs.Nodes.{node_of}
 use Rattle.order_search.specs.Spelled.{IsExitTold, IsSpelled}
 use Rattle.order_model.specs.Asking.{bound_of, came_of}
@@ -68,17 +68,22 @@ pub bounded : (o : Option ℕ) → is_some o ≡ has_bound (bound_of o)
 bounded None = refl
 bounded (Some bound) = refl
 
-pub told_of : (asked : Asked) (m : Machine) (console : List ℕ) (came : List Bool) (exits : ℕ → Option Exit) (bytes told consoled : List ℕ)
-    (counts : Bool) → bytes ≡ saved_bytes m → counts ≡ has_bound asked.bound → told ≡ map came_byte came ++ exits_bytes exits
-    → length came ≡ length asked.once → consoled ≡ console
-    → IsToldOf asked (record { state = m; console = console; came = came_of came; exits = exits }) bytes counts told consoled
-told_of asked m console came exits bytes told consoled counts is bound beside few same =
+-- where a run is
+abbrev pub there : Machine → List ℕ → List Bool → ℕ → (ℕ → Option Exit) → Point
+there m console came preempted exits =
+    record { state = m; console = console; came = came_of came; exits = exits; preempted = preempted }
+
+pub told_of : (asked : Asked) (m : Machine) (console : List ℕ) (came : List Bool) (preempted : ℕ) (exits : ℕ → Option Exit)
+    (bytes told consoled : List ℕ) (counts : Bool) → bytes ≡ saved_bytes m → counts ≡ has_bound asked.bound
+    → told ≡ map came_byte came ++ (to_le_bytes w32 preempted ++ exits_bytes exits) → length came ≡ length asked.once → consoled ≡ console
+    → IsToldOf asked (there m console came preempted exits) bytes counts told consoled
+told_of asked m console came preempted exits bytes told consoled counts is bound beside few same =
     let all : came_list (length asked.once) (came_of came) ≡ came =
     ap (λ (n : ℕ). came_list n (came_of came)) (sym few) ∙ listed_came came in
     record {
       bytes_are = is;
       counts_is = bound;
-      beside_is = beside ∙ ap (λ (cs : List Bool). map came_byte cs ++ exits_bytes exits) (sym all);
+      beside_is = beside ∙ ap (λ (cs : List Bool). map came_byte cs ++ (to_le_bytes w32 preempted ++ exits_bytes exits)) (sym all);
       console_is = same;
     }
 
@@ -99,13 +104,14 @@ spellable_of old new same matched within reserved saveable =
     let low : new.steps ≤ STEP_LIMIT = subst (λ (m : Machine). m.steps ≤ STEP_LIMIT) (sym same) within in
     record { matched = matched; saveable = subst IsSaveable same (saveable low (subst IsReservedByThread (sym same) reserved)) }
 
-pub spelled_of : (asked : Asked) (m : Machine) (console : List ℕ) (came : List Bool) (exits : ℕ → Option Exit) → IsSpellable m
-    → length came ≡ length asked.once → ((pid : ℕ) → IsExitTold pid (exits pid))
-    → IsSpelled asked (node_of asked (record { state = m; console = console; came = came_of came; exits = exits }))
-spelled_of asked m console came exits spellable few told = record {
+pub spelled_of : (asked : Asked) (m : Machine) (console : List ℕ) (came : List Bool) (preempted : ℕ) (exits : ℕ → Option Exit)
+    → IsSpellable m → length came ≡ length asked.once → preempted < 2 ^ 32 → ((pid : ℕ) → IsExitTold pid (exits pid))
+    → IsSpelled asked (node_of asked (there m console came preempted exits))
+spelled_of asked m console came preempted exits spellable few word told = record {
   state = m;
   spellable = spellable;
   is = refl;
   came = λ k high. get_or_past came k false (omega (arith, high, few));
+  preempted = word;
   exits = told;
 }

@@ -16,7 +16,7 @@ use Rattle.order_model.specs.Orders.{IsPlayed}
 use Rattle.order_model.specs.Searches.{IsNoteOf}
 use Rattle.order_model.proofs.EdgeLemmas.{choices_are_edges}
 use Rattle.order_model.specs.declared.choices.Choice.{Choice}
-use Rattle.order_model.specs.Choosing.{IsSeen, choices_at}
+use Rattle.order_model.specs.Choosing.{IsSeen, all_choices_at}
 use Rattle.order_model.specs.Edges.{AreEdgesBy}
 use Rattle.graph_search.specs.declared.space.Successor.{Successor}
 use Rattle.graph_search.specs.Edges.{AreEdges}
@@ -51,9 +51,7 @@ module _ (asked : Asked) (p node : Point) (at : node_of asked p ≡ node) (choic
       subst (λ (n : Point). IsNoteOf asked n note) at here
 
   pub edges_right : {Key : Type 0} (IsKey : Point → Key → Type 0) (edges : List (Successor Move Key)) → Matched p.state
-      → AreEdgesBy IsKey asked p choices edges → AreEdges (after asked) IsKey node edges
+      → AreEdgesBy IsKey asked p (all_choices_at asked p) edges → AreEdges (after asked) IsKey node edges
   edges_right IsKey edges matched by =
-      let all : AreEdgesBy IsKey asked p (choices_at asked p) edges =
-      subst (λ (cs : List Choice). AreEdgesBy IsKey asked p cs edges) seen.choices_are by in
       subst (λ (n : Point). AreEdges (after asked) IsKey n edges) at
-      (choices_are_edges IsKey asked p matched seen.goes_on edges all)
+      (choices_are_edges IsKey asked p matched seen.goes_on edges by)

@@ -123,20 +123,22 @@ none_came zero k = refl
 none_came (suc n) zero = refl
 none_came (suc n) (suc k) = none_came n k
 
-abbrev here : Machine → List ℕ → List Bool → List Ended → Point
-here m console came ends = record { state = m; console = console; came = came_of came; exits = exit_in ends }
+abbrev here : Machine → List ℕ → List Bool → List Ended → ℕ → Point
+here m console came ends preempted =
+    record { state = m; console = console; came = came_of came; exits = exit_in ends; preempted = preempted }
 
 -- a run whose events before were played is at the start of orders
-pub begun : (s : Subject) (booted m : Machine) (events console : List ℕ) (came : List Bool) (ends : List Ended) → booted ≡ start s.plan s.file.items
+pub begun : (s : Subject) (booted m : Machine) (events console : List ℕ) (came : List Bool) (ends : List Ended) (preempted : ℕ)
+    → booted ≡ start s.plan s.file.items
     → events ≡ s.before.items → m ≡ (run_of STEP_LIMIT booted events).machine
     → console ≡ bytes_of (run_of STEP_LIMIT booted events).records → came ≡ replicate (length s.orders.once.items) false
-    → ends ≡ [] → here m console came ends ≡ start_of s
+    → ends ≡ [] → preempted ≡ 0 → here m console came ends preempted ≡ start_of s
 unfolding start_of
-begun s booted m events console came ends is same there told none no_end =
+begun s booted m events console came ends preempted is same there told none no_end no_move =
     let h : run_of STEP_LIMIT booted events ≡ run_of STEP_LIMIT (start s.plan s.file.items) s.before.items =
     λ i. run_of STEP_LIMIT (is i) (same i) in
     let state : m ≡ (run_of STEP_LIMIT (start s.plan s.file.items) s.before.items).machine = there ∙ ap (λ (x : History). x.machine) h in
     let bytes : console ≡ bytes_of (run_of STEP_LIMIT (start s.plan s.file.items) s.before.items).records =
     told ∙ ap (λ (x : History). bytes_of x.records) h in
     let all : came_of came ≡ (λ (k : ℕ). false) = ap came_of none ∙ (λ i k. none_came (length s.orders.once.items) k i) in
-    λ i. record { state = state i; console = bytes i; came = all i; exits = exit_in (no_end i) }
+    λ i. record { state = state i; console = bytes i; came = all i; exits = exit_in (no_end i); preempted = no_move i }

@@ -38,14 +38,21 @@ one_point asked start order p q one other = same_Some p q (sym one ∙ other)
 pub stands : (asked : Asked) (start : Point) (order : List Move) (p here : Point) (state : State) (trail : Trail)
     → leads_by asked start order ≡ Some p → leads_by asked start order ≡ Some here
     → (file : List ℕ) × (machine_in file state ≡ here.state) → trail.console.items ≡ here.console
-    → ((k : ℕ) → came_of trail.came.items k ≡ here.came k) → ((pid : ℕ) → exit_in trail.ends.items pid ≡ here.exits pid) → IsStand p state trail
-stands asked start order p here state trail at there rows console came exits =
+    → ((k : ℕ) → came_of trail.came.items k ≡ here.came k) → ((pid : ℕ) → exit_in trail.ends.items pid ≡ here.exits pid)
+    → trail.preempted ≡ here.preempted → IsStand p state trail
+stands asked start order p here state trail at there rows console came exits preempted =
     subst (λ (x : Point). IsStand x state trail) (one_point asked start order here p there at)
-    (record { file = rows.0; rows = rows.1; console = console; came = came; exits = exits })
+    (record { file = rows.0; rows = rows.1; console = console; came = came; exits = exits; preempted = preempted })
 
 -- where a run is that left this
 abbrev pub at : Machine → Trail → Point
-at m trail = record { state = m; console = trail.console.items; came = came_of trail.came.items; exits = exit_in trail.ends.items }
+at m trail = record {
+  state = m;
+  console = trail.console.items;
+  came = came_of trail.came.items;
+  exits = exit_in trail.ends.items;
+  preempted = trail.preempted;
+}
 
 -- rows of a run that stays where it was
 pub stands_on : (asked : Asked) (start : Point) (order : List Move) (p : Point) (m : Machine) (old new : Trail) (state : State)
@@ -54,6 +61,7 @@ pub stands_on : (asked : Asked) (start : Point) (order : List Move) (p : Point) 
 stands_on asked start order p m old new state arrives there rows same =
     stands asked start order p (at m old) state new arrives there rows (ap (λ (t : Trail). t.console.items) same)
     (λ k. ap (λ (t : Trail). came_of t.came.items k) same) (λ pid. ap (λ (t : Trail). exit_in t.ends.items pid) same)
+    (ap (λ (t : Trail). t.preempted) same)
 
 pub arrives_still : (s t : Subject) (order : List Move) (m n : Machine) (old new : Trail) → t ≡ s → n ≡ m → new ≡ old
     → Arrives (searching_of s) order (at m old) → Arrives (searching_of t) order (at n new)

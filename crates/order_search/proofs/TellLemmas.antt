@@ -1,5 +1,6 @@
 -- Equal bytes are equal nodes.
 use Rattle.std.proofs.Common.{◌≡◌, ◌<◌, ◌≤◌, ◌⊎◌, ◌^◌, ◌∙◌, inl, inr, ℕ, List, [], ◌++◌, length, take, drop, map, refl, sym, ap, subst, append_assoc, arith}
+use Rattle.std.specs.Int.{to_le_bytes, w32}
 use Rattle.std.specs.Prelude.{Ok}
 use Rattle.xk_base.specs.Tables.Circle.{id_at}
 use Rattle.xk_base.specs.declared.limits.TheConstants.{STEP_LIMIT}
@@ -15,7 +16,7 @@ use Rattle.suspend_image.specs.Words.{word, word_bytes}
 use Rattle.order_model.specs.Moves.{Bound, Point, Unbounded, UpTo}
 use Rattle.order_model.specs.Nodes.{set_aside}
 use Rattle.order_search.proofs.MarkLemmas.{marks_tell}
-use Rattle.order_search.proofs.ToldLemmas.{came_tell, exits_tell}
+use Rattle.order_search.proofs.ToldLemmas.{bytes_tell_word, came_tell, exits_tell}
 use Rattle.order_search.specs.Keys.{beside_bytes, came_byte, came_list, exits_bytes}
 use Rattle.order_search.specs.Marks.{marked}
 use Rattle.order_search.specs.Spelled.{BytesTellNodes, IsSpelled}
@@ -143,12 +144,17 @@ bytes_tell_nodes asked one other h h' same =
     let state = marks_tell (saved_parts one.state) (saved_parts other.state) (beside_bytes asked one ++ one.console)
     (beside_bytes asked other ++ other.console) (parts_long one.state other.state size.0) size.1 in
     let came_of = λ (node : Point). map came_byte (came_list (length asked.once) node.came) in
-    let beside : came_of one ++ (exits_bytes one.exits ++ one.console) ≡ came_of other ++ (exits_bytes other.exits ++ other.console) =
-    sym (append_assoc (came_of one) (exits_bytes one.exits) one.console)
-    ∙ (state.1 ∙ append_assoc (came_of other) (exits_bytes other.exits) other.console) in
-    let came = came_tell (length asked.once) one.came other.came (exits_bytes one.exits ++ one.console)
-    (exits_bytes other.exits ++ other.console) beside in
-    let exits = exits_tell one.exits other.exits h.exits h'.exits one.console other.console came.1 in
+    let told = λ (node : Point). to_le_bytes w32 node.preempted ++ exits_bytes node.exits in
+    let beside : came_of one ++ (told one ++ one.console) ≡ came_of other ++ (told other ++ other.console) =
+    sym (append_assoc (came_of one) (told one) one.console) ∙ (state.1 ∙ append_assoc (came_of other) (told other) other.console) in
+    let came = came_tell (length asked.once) one.came other.came (told one ++ one.console) (told other ++ other.console) beside in
+    let counted : to_le_bytes w32 one.preempted ++ (exits_bytes one.exits ++ one.console)
+    ≡ to_le_bytes w32 other.preempted ++ (exits_bytes other.exits ++ other.console) =
+    sym (append_assoc (to_le_bytes w32 one.preempted) (exits_bytes one.exits) one.console)
+    ∙ (came.1 ∙ append_assoc (to_le_bytes w32 other.preempted) (exits_bytes other.exits) other.console) in
+    let count = bytes_tell_word one.preempted other.preempted (exits_bytes one.exits ++ one.console) (exits_bytes other.exits ++ other.console)
+    h.preempted h'.preempted counted in
+    let exits = exits_tell one.exits other.exits h.exits h'.exits one.console other.console count.1 in
     let parts : saved_parts (set_aside asked.bound h.state) ≡ saved_parts (set_aside asked.bound h'.state) =
     ap saved_parts h.is ∙ (state.0 ∙ ap saved_parts (sym h'.is)) in
     let states : one.state ≡ other.state =
@@ -158,6 +164,7 @@ bytes_tell_nodes asked one other h h' same =
       console = exits.1 i;
       came = λ k. each k (half k) came.0 i;
       exits = exits.0 i;
+      preempted = count.0 i;
     }
   where
     half : (k : ℕ) → (k < length asked.once) ⊎ (length asked.once ≤ k)

@@ -34,21 +34,23 @@ came_tell (suc n) a b x y same =
         let next : k + 1 ≡ suc k = omega arith in
         subst (λ (j : ℕ). a j ≡ b j) next (there k (omega (arith, low)))
 
--- ---- what processes ended with
+-- ---- words
 
-word_tells : (m n : ℕ) (x y : List ℕ) → m < 2 ^ 32 → n < 2 ^ 32 → to_le_bytes w32 m ++ x ≡ to_le_bytes w32 n ++ y → (m ≡ n) × (x ≡ y)
-word_tells m n x y fits fits' same =
+pub bytes_tell_word : (m n : ℕ) (x y : List ℕ) → m < 2 ^ 32 → n < 2 ^ 32 → to_le_bytes w32 m ++ x ≡ to_le_bytes w32 n ++ y → (m ≡ n) × (x ≡ y)
+bytes_tell_word m n x y fits fits' same =
     let front = same_front (to_le_bytes w32 m) (to_le_bytes w32 n) x y refl same in
     (sym (from_le_bytes-to_le_bytes_4 m fits) ∙ (ap (from_le_bytes w32) front.0 ∙ from_le_bytes-to_le_bytes_4 n fits'), front.1)
+
+-- ---- what processes ended with
 
 exit_tells : (pid : ℕ) (a b : Option Exit) (x y : List ℕ) → IsExitTold pid a → IsExitTold pid b → exit_bytes a ++ x ≡ exit_bytes b ++ y
     → (a ≡ b) × (x ≡ y)
 exit_tells pid None None x y f g same = (refl, ap (drop 1) same)
 exit_tells pid (Some (Exited m)) (Some (Exited n)) x y f g same =
-    let word = word_tells m n x y f.1 g.1 (ap (drop 1) same) in
+    let word = bytes_tell_word m n x y f.1 g.1 (ap (drop 1) same) in
     (ap (λ (w : ℕ). Some (Exited w)) word.0, word.1)
 exit_tells pid (Some (Faulted c v)) (Some (Faulted d w)) x y f g same =
-    let word = word_tells v w x y f.1 g.1 (ap (drop 2) same) in
+    let word = bytes_tell_word v w x y f.1 g.1 (ap (drop 2) same) in
     let cause : c ≡ d = cc in
     ((λ i. Some (Faulted (cause i) (word.0 i))), word.1)
 exit_tells pid (Some Killed) (Some Killed) x y f g same = (refl, ap (drop 1) same)

@@ -36,11 +36,12 @@ exit_bytes (Some Killed) = 3 ∷ []
 unfoldable pub exits_bytes : (ℕ → Option Exit) → List ℕ
 exits_bytes exits = flat_map (λ pid. exit_bytes (exits pid)) (listed_below (2 ^ 8) (λ pid. true))
 
+-- which of the events came, how many moves were preempted, as a word, and what processes ended with
 abbrev pub beside_bytes : Asked → Point → List ℕ
-beside_bytes asked p = came_bytes asked p ++ exits_bytes p.exits
+beside_bytes asked p = came_bytes asked p ++ (to_le_bytes w32 p.preempted ++ exits_bytes p.exits)
 
--- How many state bytes the node has, their parts with marks in place of zeros, which events came, what processes ended with, and the
--- console's bytes. No check number is among them.
+-- How many state bytes the node has, their parts with marks in place of zeros, which events came, how many moves were preempted, what
+-- processes ended with, and the console's bytes. No check number is among them.
 abbrev pub node_bytes : Asked → Point → List ℕ
 node_bytes asked node =
     word (length (saved_bytes node.state)) ++ (marked (saved_parts node.state) ++ (beside_bytes asked node ++ node.console))

@@ -9,7 +9,7 @@ use Rattle.order_model.specs.Moves.{Asked, Point, bytes_of, leads_by}
 use Rattle.order_model.specs.Nodes.{after, node_of}
 use Rattle.order_model.specs.declared.choices.Choice.{Choice}
 use Rattle.order_model.specs.Asking.{asked_of}
-use Rattle.order_model.specs.Choosing.{choices_at}
+use Rattle.order_model.specs.Choosing.{all_choices_at}
 use Rattle.order_search.specs.declared.subject.Subject.{Subject}
 use Rattle.graph_search.specs.Graph.{LeadsOn}
 use Rattle.xk_base.specs.declared.limits.TheConstants.{STEP_LIMIT}
@@ -20,10 +20,10 @@ pub record Searching : Type 0 where
   pub asked : Asked
   pub start : Point
 
--- the point behind a history: its last state and its bytes on the console; none of the events that may come once came, and what processes
--- ended with in it isn't kept
+-- the point behind a history: its last state and its bytes on the console; none of the events that may come once came, what processes
+-- ended with in it isn't kept, and no move was preempted
 abbrev pub point_after : History → Point
-point_after h = record { state = h.machine; console = bytes_of h.records; came = λ k. false; exits = λ pid. None }
+point_after h = record { state = h.machine; console = bytes_of h.records; came = λ k. false; exits = λ pid. None; preempted = 0 }
 
 -- the events before are played from the start of the image
 abbrev pub history_before : Subject → History
@@ -58,4 +58,4 @@ Arrives q order p = leads_by q.asked q.start order ≡ Some p
 
 -- the choice is one of those at the point
 pub record IsChoice (asked : Asked) (p : Point) (choice : Choice) : Type 0 where
-  pub among : Contains (choices_at asked p) choice
+  pub among : Contains (all_choices_at asked p) choice

@@ -24,13 +24,14 @@ abbrev pub IsExitTold : ℕ → Option Exit → Type 0
 IsExitTold pid None = Unit {0}
 IsExitTold pid (Some exit) = (pid < 2 ^ 8) × IsExitOfWords exit
 
--- It is the node of a state that state bytes spell; of the events that were asked for none came but those that are told; and what processes
--- ended with has the form in which it is told. So is each node of which a search makes a key.
+-- It is the node of a state that state bytes spell; of the events that were asked for none came but those that are told; how many moves
+-- were preempted is a word; and what processes ended with has the form in which it is told. So is each node of which a search makes a key.
 pub record IsSpelled (asked : Asked) (node : Point) : Type 0 where
   pub state : Machine
   pub spellable : IsSpellable state
   pub is : set_aside asked.bound state ≡ node.state
   pub came : (k : ℕ) → length asked.once ≤ k → node.came k ≡ false
+  pub preempted : node.preempted < 2 ^ 32
   pub exits : (pid : ℕ) → IsExitTold pid (node.exits pid)
 
 -- **Equal bytes are equal nodes.**

@@ -1,6 +1,7 @@
-//! What a key has beside a state: which events came, and what processes ended with.
+//! What a key has beside a state: which events came, how many moves were preempted, and what processes ended with.
 
-ghost use Rattle.std.specs.Prelude.{◌≡◌, ◌++◌, ℕ, All, IfOk, OnOk, map};
+ghost use Rattle.std.specs.Int.{to_le_bytes, w32};
+ghost use Rattle.std.specs.Prelude.{◌≡◌, ◌<◌, ◌^◌, ◌++◌, ℕ, All, IfOk, OnOk, map};
 ghost use Rattle.order_model.specs.Exits.{exit_in as exit_told};
 ghost use Rattle.order_search.specs.Keys.{came_byte, exit_bytes, exits_bytes};
 ghost use Rattle.order_search.specs.Spelled.{IsEndOfWords, IsExitOfWords, IsExitTold};
@@ -79,12 +80,15 @@ fn are_told(ends: &[Ended])
 
 /// The bytes of what an order left beside its state, but for the console.
 pub(crate) fn beside_bytes(alloc: Global, trail: &Trail) -> Result<Vec<u8>, AllocError>
-    ensures bytes { IfOk result (λ bytes.
-        bytes.items ≡ map came_byte trail.now.came.items ++ exits_bytes (exit_told trail.now.ends.items)) }
+    ensures bytes { IfOk result (λ bytes. bytes.items ≡ map came_byte trail.now.came.items
+        ++ (to_le_bytes w32 trail.now.preempted ++ exits_bytes (exit_told trail.now.ends.items))) }
     ensures told { (pid : ℕ) → IsExitTold pid (exit_told trail.now.ends.items pid) }
+    ensures word { trail.now.preempted < 2 ^ 32 }
 {
+    let preempted = trail.preempted;
     are_told(&trail.ends);
     let mut bytes = came_bytes(alloc, &trail.came)?;
+    bytes.extend_from_slice(&preempted.to_le_bytes())?;
     push_exits(&mut bytes, &trail.ends)?;
     Ok(bytes)
 }

@@ -1,6 +1,7 @@
 //! The edges that leave a node.
 
-ghost use Rattle.std.specs.Prelude.{◌≡◌, ◌≤◌, IfErr, IfOk, OnOk, Some, length};
+ghost use Rattle.std.specs.List.{flat_map};
+ghost use Rattle.std.specs.Prelude.{◌≡◌, ◌≤◌, ◌++◌, All, IfErr, IfOk, IsSome, List, OnOk, Some, length};
 ghost use Rattle.machine_laws.specs.Reserved.{IsReservedByThread};
 ghost use Rattle.suspend_image.specs.Sheets.{room_for};
 ghost use Rattle.xk_kernel.specs.Knowing.{IsTrusted};
@@ -12,7 +13,8 @@ ghost use Rattle.order_model.specs.Moves.{Point, leads};
 ghost use Rattle.order_model.specs.Nodes.{node_of};
 ghost use Rattle.order_player.specs.Runs.{point_of};
 ghost use Rattle.order_model.specs.Asking.{asked_of};
-ghost use Rattle.order_model.specs.Choosing.{choice_of, choices_at};
+ghost use Rattle.order_model.specs.Choosing.{all_choices_at, choice_of, choices_at, preemptions_by};
+ghost use Rattle.order_model.specs.declared.choices.Choice.{Choice};
 ghost use Rattle.order_model.specs.Edges.{AreEdgesBy, IsEdge};
 ghost use Rattle.order_search.specs.Quests.{Arrives, IsChoice, IsKeyOf, IsPath, searching_of};
 
@@ -21,10 +23,34 @@ use crate::keys::node_key;
 use crate::quest::{OrderFault, Quest, no_memory, unplayed};
 use crate::runs::Run;
 use graph_search::{Successor, Unanswered};
-use order_model::{Choice, Move, Orders};
+use order_model::{Choice, Move, Orders, add_preemptions};
 use order_player::{play_move, play_thread};
+use std::alloc::{AllocError, Global};
 use xk_base::limits::STEP_LIMIT;
 use xk_ports::{SureStore, SwapStore};
+
+/// Makes the move in a run, where it may be made.
+fn make(orders: &Orders, run: &mut Run, next: Move) -> Result<Move, Unanswered<OrderFault>>
+    requires sound { IsSound ⟦<SureStore as SwapStore>⟧ run.old.kernel }
+    requires usable { IsUsable run.old.kernel }
+    requires trusted { IsTrusted ⟦<SureStore as SwapStore>⟧ run.old.kernel }
+    requires came { length run.old.trail.came.items ≡ length orders.now.once.items }
+    requires may { IsSome (leads (asked_of orders.now) (point_of ⟦<SureStore as SwapStore>⟧ run.old.kernel run.old.trail) next) }
+    ensures leads { let old = point_of ⟦<SureStore as SwapStore>⟧ run.old.kernel run.old.trail in
+        let new = point_of ⟦<SureStore as SwapStore>⟧ run.new.kernel run.new.trail in
+        OnOk result (leads (asked_of orders.now) old next ≡ Some new) }
+    ensures made { IfOk result (λ made. made ≡ next) }
+    ensures fault { IfErr result (IsUnchosen (asked_of orders.now) (point_of ⟦<SureStore as SwapStore>⟧ run.old.kernel run.old.trail)) }
+    ensures came { OnOk result (length run.new.trail.came.items ≡ length run.old.trail.came.items) }
+    ensures sound { IsSound ⟦<SureStore as SwapStore>⟧ run.new.kernel }
+    ensures usable { OnOk result (IsUsable run.new.kernel) }
+    ensures keeps { Keeps ⟦<SureStore as SwapStore>⟧ run.old.kernel run.new.kernel }
+{
+    match play_move(&mut run.kernel, orders, next, &mut run.trail) {
+        Ok(()) => Ok(next),
+        Err(fault) => Err(unplayed(fault)),
+    }
+}
 
 /// Makes the choice in a run, one of those that it has.
 fn choose(orders: &Orders, run: &mut Run, choice: Choice) -> Result<Move, Unanswered<OrderFault>>
@@ -48,14 +74,33 @@ fn choose(orders: &Orders, run: &mut Run, choice: Choice) -> Result<Move, Unansw
             Ok(steps) => Ok(Move::Slice(who, steps)),
             Err(fault) => Err(unplayed(fault)),
         },
-        Choice::Comes(number) => {
-            let next = Move::Once(number);
-            match play_move(&mut run.kernel, orders, next, &mut run.trail) {
-                Ok(()) => Ok(next),
-                Err(fault) => Err(unplayed(fault)),
-            }
-        }
+        Choice::Preempts(who, steps) => make(orders, run, Move::Preempted(who, steps)),
+        Choice::Comes(number) => make(orders, run, Move::Once(number)),
     }
+}
+
+/// The choices to preempt the slice that the move is, if it is a whole one, are added.
+fn add_preemptions_of(choices: &mut Vec<Choice>, label: Move) -> Result<(), AllocError>
+    ensures { OnOk result (choices.new.items ≡ choices.old.items ++ preemptions_by label) }
+{
+    match label {
+        Move::Slice(who, steps) => add_preemptions(choices, who, steps),
+        Move::Preempted(_, _) | Move::Once(_) => Ok(()),
+    }
+}
+
+/// The choices to preempt the slices that these edges are.
+fn preemptions(
+    alloc: Global,
+    edges: &[Successor<Move, [u8; 32]>],
+) -> Result<Vec<Choice>, AllocError>
+    ensures { IfOk result (λ choices. choices.items ≡ flat_map (λ edge. preemptions_by edge.label) edges.now) }
+{
+    let mut choices = Vec::new(alloc);
+    for edge in edges {
+        add_preemptions_of(&mut choices, edge.label)?;
+    }
+    Ok(choices)
 }
 
 impl Quest {
@@ -155,7 +200,32 @@ impl Quest {
         self.edge_on(path, run, choice)
     }
 
-    /// The edges by these choices, which are those at the end of the path. A run that is there makes the first.
+    /// The edges by these choices, of those at the end of the path, are put behind others.
+    fn add_edges(
+        &mut self,
+        path: &[Move],
+        choices: &[Choice],
+        edges: &mut Vec<Successor<Move, [u8; 32]>>,
+    ) -> Result<(), Unanswered<OrderFault>>
+        requires path { IsPath (searching_of self.old.subject) path.now }
+        requires may { let q = searching_of self.old.subject in
+            (p : Point) → Arrives q path.now p → All (IsChoice q.asked p) choices.now }
+        ensures edges { let q = searching_of self.old.subject in
+            (p : Point) (before : List Choice) → Arrives q path.now p → AreEdgesBy (IsKeyOf q) q.asked p before edges.old.items
+            → OnOk result (AreEdgesBy (IsKeyOf q) q.asked p (before ++ choices.now) edges.new.items) }
+        ensures fault { IfErr result (HasCause (IsFault self.old.subject)) }
+        ensures subject { self.new.subject ≡ self.old.subject }
+    {
+        for choice in choices {
+            let edge = self.edge(path, *choice)?;
+            let Ok(()) = edges.push(edge) else {
+                return Err(no_memory());
+            };
+        }
+        Ok(())
+    }
+
+    /// The edges by these choices, which are those at the end of the path but for preempted slices. A run that is there makes the first.
     pub(crate) fn edges(
         &mut self,
         path: &[Move],
@@ -179,7 +249,7 @@ impl Quest {
         ensures subject { self.new.subject ≡ self.old.subject }
     {
         let mut edges = Vec::new(self.alloc);
-        let Some(first) = choices.first() else {
+        let Some((first, rest)) = choices.split_first() else {
             run.close();
             return Ok(edges);
         };
@@ -187,12 +257,33 @@ impl Quest {
         let Ok(()) = edges.push(edge) else {
             return Err(no_memory());
         };
-        for next in 1..choices.len() {
-            let edge = self.edge(path, choices[next])?;
-            let Ok(()) = edges.push(edge) else {
-                return Err(no_memory());
-            };
-        }
+        self.add_edges(path, rest, &mut edges)?;
         Ok(edges)
+    }
+
+    /// The edges by preempted slices are put behind those by all other choices at the end of the path, where so many were preempted.
+    pub(crate) fn add_preempted(
+        &mut self,
+        path: &[Move],
+        preempted: u32,
+        edges: &mut Vec<Successor<Move, [u8; 32]>>,
+    ) -> Result<(), Unanswered<OrderFault>>
+        requires path { IsPath (searching_of self.old.subject) path.now }
+        requires preempted { let q = searching_of self.old.subject in (p : Point) → Arrives q path.now p → preempted ≡ p.preempted }
+        requires edges { let q = searching_of self.old.subject in
+            (p : Point) → Arrives q path.now p → AreEdgesBy (IsKeyOf q) q.asked p (choices_at q.asked p) edges.old.items }
+        ensures edges { let q = searching_of self.old.subject in
+            (p : Point) → Arrives q path.now p
+            → OnOk result (AreEdgesBy (IsKeyOf q) q.asked p (all_choices_at q.asked p) edges.new.items) }
+        ensures fault { IfErr result (HasCause (IsFault self.old.subject)) }
+        ensures subject { self.new.subject ≡ self.old.subject }
+    {
+        if !self.subject.orders.may_preempt(preempted) {
+            return Ok(());
+        }
+        let Ok(choices) = preemptions(self.alloc, edges) else {
+            return Err(no_memory());
+        };
+        self.add_edges(path, &choices, edges)
     }
 }

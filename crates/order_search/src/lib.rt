@@ -1,5 +1,6 @@
 //! The orders of an image as a graph that is searched. A node is kept as an order that leads to it: the image is booted, and the order is
-//! played again. Nodes are told apart by keys, which are digests of the bytes that spell them.
+//! played again. Nodes are told apart by keys, which are digests of the bytes that spell them. The caller drives the search:
+//! `begin_search` begins it, and `follow_node` follows one node more.
 #![tactic(auto)]
 
 mod before;
@@ -18,6 +19,6 @@ mod subject;
 
 pub use laws::{bytes_tell_nodes, orders_are_replayed};
 pub use quest::{OrderFault, Quest};
-pub use searching::search_orders;
+pub use searching::{begin_search, follow_node};
 pub use standing::Stand;
 pub use subject::Subject;

@@ -1,6 +1,6 @@
 //! A search of orders, and what it needs.
 
-ghost use Rattle.std.specs.Prelude.{◌≡◌, ◌≤◌, ◌<◌, ◌^◌, All, IfOk, Some, length};
+ghost use Rattle.std.specs.Prelude.{◌≡◌, ◌≤◌, ◌<◌, ◌^◌, All, IfOk, None, Some, length};
 ghost use Rattle.boot_plan.specs.Capacity.{capacity};
 ghost use Rattle.boot_plan.specs.Lawful.{CanStart, IsLawfulPlan};
 ghost use Rattle.suspend_image.specs.Sheets.{room_for};
@@ -62,6 +62,23 @@ impl Quest {
             ≡ record self.old.subject { orders = record self.old.subject.orders { bound = Some bound } } }
     {
         self.subject.orders.bound = Some(bound);
+    }
+
+    /// At most so many moves of an order are preempted from now on, and orders have no bound of steps.
+    pub fn allow_preemptions(&mut self, most: u32)
+        ensures { self.new.subject ≡ record self.old.subject {
+          orders = record self.old.subject.orders { preemptions = most; bound = None };
+        } }
+    {
+        self.subject.orders.preemptions = most;
+        self.subject.orders.bound = None;
+    }
+
+    /// How many moves of an order are preempted at most.
+    pub fn preemptions(&self) -> u32
+        ensures { result ≡ self.now.subject.orders.preemptions }
+    {
+        self.subject.orders.preemptions
     }
 
     /// How many steps an order has at most, where steps count.

@@ -55,7 +55,9 @@ impl Space for Quest {
                 return Err(fault);
             }
         };
-        let edges = self.edges(path, run, &sight.choices)?;
+        let preempted = run.trail.preempted;
+        let mut edges = self.edges(path, run, &sight.choices)?;
+        self.add_preempted(path, preempted, &mut edges)?;
         Ok(Followed {
             edges,
             note: sight.note,

@@ -15,8 +15,8 @@ play_before-requires-clause-within c =
 pub returns-clause-point : goal.returns-clause-point
 returns-clause-point c =
     let there = c.in_ok-trail.ensures.plays (start c.args.self.now.subject.plan c.args.self.now.subject.file.items) c.requires.booted.begins in
-    begun c.args.self.now.subject (start c.args.self.now.subject.plan c.args.self.now.subject.file.items) _ c.deref.result.now _ _ _ refl
-    c.deref.ensures.value there.machine there.console_is c.in-Ok.ensures.came c.in-Ok.ensures.ends
+    begun c.args.self.now.subject (start c.args.self.now.subject.plan c.args.self.now.subject.file.items) _ c.deref.result.now _ _ _ _ refl
+    c.deref.ensures.value there.machine there.console_is c.in-Ok.ensures.came c.in-Ok.ensures.ends c.in-Ok.ensures.preempted
 
 pub returns-in_err-trail-clause-fault : goal.returns-in_err-trail-clause-fault
 returns-in_err-trail-clause-fault c =

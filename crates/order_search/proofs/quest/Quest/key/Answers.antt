@@ -23,13 +23,13 @@ returns-in-Ok-node_key-clause-key c =
     let within : c.steps.result ≤ STEP_LIMIT = omega (arith, c.if-steps-gt-STEP_LIMIT.false) in
     record {
       is = c.in-Ok-node_key.ensures.key (asked_of c.args.self.now.subject.orders) _
-          (told_of (asked_of c.args.self.now.subject.orders) _ _ _ _ c.save.new.sheet.bytes c.deref.result.now c.deref-2.result.now
+          (told_of (asked_of c.args.self.now.subject.orders) _ _ _ _ _ c.save.new.sheet.bytes c.deref.result.now c.deref-2.result.now
           c.is_some-counts.result
           (ap (λ (sheet : SheetBytes). sheet.bytes) (c.in-Ok.ensures.saved refl) ∙ ap saved_bytes (c.save.ensures.machine.whole refl))
           (c.is_some-counts.ensures ∙ bounded c.args.self.now.subject.orders.bound)
           (c.deref.ensures.value ∙ c.in-Ok-beside_bytes.ensures.bytes) c.requires.came c.deref-2.ensures.value);
-      spelled = spelled_of (asked_of c.args.self.now.subject.orders) _ _ _ _
+      spelled = spelled_of (asked_of c.args.self.now.subject.orders) _ _ _ _ _
           (spellable_of _ _ (c.save.ensures.machine.whole refl) (c.requires.sound.matched c.requires.usable)
           (subst (λ (n : ℕ). n ≤ STEP_LIMIT) c.steps.ensures within) c.requires.reserved c.in-Ok.ensures.saveable)
-          c.requires.came c.beside_bytes.ensures.told;
+          c.requires.came c.beside_bytes.ensures.word c.beside_bytes.ensures.told;
     }
