@@ -5,19 +5,11 @@ ghost use Rattle.std.specs.Prelude.{◌≤◌, length};
 use crate::expecting::expect;
 use crate::first_run::FIRST_IMAGE;
 use boot_plan::plan;
-use graph_search::{Extent, Progress, Watch};
+use graph_search::{Strategy, Turn};
 use kernel_args::read_args;
 use order_model::Orders;
-use order_search::{Quest, Subject, search_orders};
+use order_search::{Quest, Subject, begin_search, follow_node};
 use std::alloc::Global;
-
-/// Nobody watches.
-#[derive(Drop)]
-struct Unwatched;
-
-impl Watch for Unwatched {
-    fn see(&mut self, _progress: Progress) {}
-}
 
 // The image of the first run with RAM of 256 KiB, and the check number of that.
 fn small_image() -> [u8; 88] {
@@ -29,8 +21,8 @@ fn small_image() -> [u8; 88] {
     image
 }
 
-// A search of the orders of an image in slices of up to seven steps.
-fn quest_of(alloc: Global, image: &[u8], bound: Option<u32>) -> Option<Quest>
+// A search of the orders of an image in slices of up to seven steps, of which so many may be preempted.
+fn quest_of(alloc: Global, image: &[u8], bound: Option<u32>, preemptions: u32) -> Option<Quest>
     requires few { length image.now ≤ 67108864 }
 {
     let args = read_args(alloc, image).ok()?;
@@ -42,6 +34,7 @@ fn quest_of(alloc: Global, image: &[u8], bound: Option<u32>) -> Option<Quest>
         bound,
         once: Vec::new(alloc),
         exits: true,
+        preemptions,
     };
     let subject = Subject {
         plan,
@@ -52,21 +45,37 @@ fn quest_of(alloc: Global, image: &[u8], bound: Option<u32>) -> Option<Quest>
     Quest::new(alloc, subject).ok()
 }
 
-// How many nodes a whole search finds.
-fn nodes_of(alloc: Global, bound: Option<u32>) -> Option<usize> {
-    let mut quest = quest_of(alloc, &small_image(), bound)?;
-    let found = search_orders(alloc, &mut quest, 10, &mut Unwatched).ok()?;
-    if found.extent == Extent::Whole {
-        Some(found.notes.len())
-    } else {
-        None
+// How many nodes a search follows, if it is whole.
+fn nodes_of(
+    alloc: Global,
+    bound: Option<u32>,
+    preemptions: u32,
+    strategy: Strategy,
+) -> Option<usize> {
+    let mut quest = quest_of(alloc, &small_image(), bound, preemptions)?;
+    let Ok(mut search) = begin_search(alloc, &mut quest, strategy) else {
+        return None;
+    };
+    for _turn in 0..20 {
+        match follow_node(alloc, &mut quest, &mut search, 20) {
+            Ok(Turn::Followed) => {}
+            Ok(Turn::Whole) => return Some(search.notes().len()),
+            Ok(Turn::Cut(_)) | Err(_) => return None,
+        }
     }
+    None
 }
 
-// The thread has slices up to its call, up to its store to the console, and then of its loop. These lead to where they began; where steps
-// count, to others after 15, 22 and 27 of them.
+// The thread has slices of 6 steps up to its call, of 2 up to its store to the console, and then of 7 of its loop, which is one jump to
+// itself. These lead to where they began; where steps count, to others after 15, 22 and 27 of them. With one preemption there are besides:
+// the 5 and 1 nodes within the first two slices, and those of their ends again.
 #[test]
 fn orders_are_searched(rt: HostRuntime) {
-    expect(&rt, nodes_of(rt.alloc(), None) == Some(3));
-    expect(&rt, nodes_of(rt.alloc(), Some(27)) == Some(6));
+    let alloc = rt.alloc();
+    expect(&rt, nodes_of(alloc, None, 0, Strategy::Breadth) == Some(3));
+    expect(
+        &rt,
+        nodes_of(alloc, Some(27), 0, Strategy::Breadth) == Some(6),
+    );
+    expect(&rt, nodes_of(alloc, None, 1, Strategy::Depth) == Some(11));
 }
