@@ -15,12 +15,33 @@ use Rattle.graph_search.specs.Paths.{labels_to}
 use Rattle.xk_base.proofs.CountingLemmas.{count_below-none}
 use Rattle.xk_base.specs.Tables.Counting.{count_below, listed_below}
 use Rattle.xousorders.proofs.ShownLemmas.{same_shown-Decides}
-use Rattle.xousorders.specs.Endings.{Adds, AreDifferent, AreEndings, IsAt, IsEndingOf, IsFirst, IsLook, IsNew, IsWithin, Lists, NoneIs, Shown}
+use Rattle.xousorders.specs.Endings.{Adds, AddsOne, AreDifferent, AreEndings, IsAt, IsEndingOf, IsFirst, IsLook, IsNew, IsWithin, Lists, NoneIs, Shown}
 use Rattle.xousorders.specs.Endings.{ends_at, looks_at, node_shown, nodes_like, same_shown, shown_in}
 use Rattle.xousorders.specs.declared.endings.Ending.{Ending}
 use Rattle.xousorders.specs.declared.endings.Endings.{Endings}
 use Rattle.xousorders.specs.declared.endings.Look.{Look}
 use Rattle.xousorders.specs.declared.view.View.{View}
+
+-- an ending was added, or none
+pub one_added : (node : ℕ) (order : List Move) (shown : Shown) (old new : Endings) → Adds node order shown old new
+    → AddsOne old.list.items new.list.items
+one_added node order shown old new adds = go adds.list
+  where
+    go : Lists node order shown old.list.items new.list.items → AddsOne old.list.items new.list.items
+    go (inl same) = inl same
+    go (inr more) = inr (more.ending, more.list)
+
+-- the ending at the end is that
+pub last_added : (old new : List Ending) (known : ℕ) (x : Ending) → AddsOne old new → known ≡ length old → length old < length new
+    → slice_get new known ≡ Some x → new ≡ old ++ x ∷ []
+last_added old new known x (inl same) at longer there = absurd (let n : length new ≡ length old = ap length same in let no : ⊥ = omega (arith, n, longer) in no)
+last_added old new known x (inr more) at longer there =
+    let place : length old + 0 ≡ known = omega (arith, at) in
+    let is : more.0 ≡ x =
+    same_Some more.0 x
+    (sym (slice_get-behind old (more.0 ∷ []) 0)
+    ∙ (ap (λ (n : ℕ). slice_get (old ++ more.0 ∷ []) n) place ∙ (ap (λ (es : List Ending). slice_get es known) (sym more.1) ∙ there))) in
+    more.1 ∙ ap (λ (e : Ending). old ++ e ∷ []) is
 
 -- ---- tests
 

@@ -11,11 +11,14 @@ use Rattle.order_model.specs.declared.failing.Failing.{Failing}
 use Rattle.order_model.specs.Failing.{first_failing}
 use Rattle.order_model.specs.Moves.{Point}
 use Rattle.order_search.specs.Found.{telling_in}
-use Rattle.xousorders.specs.Calls.{AreNone, Command, FindsAll, IsCut, Passes, Report, SaysSo, TellsFailure}
+use Rattle.xousorders.specs.Calls.{AreNone, IsCut, Passes, TellsFailure}
 use Rattle.xousorders.specs.Endings.{IsAt, Shown, failing_of, shown_of}
 use Rattle.xousorders.specs.Failures.{FailsSo, NoneDiffer, NoneFails, asks_failure, fails_some, is_several, tells_failure}
 use Rattle.xousorders.specs.Outcomes.{is_whole}
+use Rattle.xousorders.specs.Reports.{FindsAll, Report, SaysSo}
 use Rattle.xousorders.specs.declared.endings.Ending.{Ending}
+use Rattle.xousorders.specs.declared.limits.Limits.{Limits}
+use Rattle.xousorders.specs.declared.view.View.{View}
 use Rattle.xousorders.proofs.EndingLemmas.{one_shown}
 use Rattle.xousorders.proofs.ShownLemmas.{none_fails}
 
@@ -71,35 +74,35 @@ module _ (fails : List Failing) where
 one_at_most : (n j k : ℕ) → nat_lt 1 n ≡ false → j < n → k < n → j ≡ k
 one_at_most n j k e low other = grind (arith, nat_tests)
 
-module _ (command : Command) (r : Report) where
+module _ (view : View) (r : Report) where
   abbrev list : List Ending
   list = r.endings.list.items
 
   abbrev fails : List Failing
-  fails = command.view.fails.items
+  fails = view.fails.items
 
-  pub failure_told : tells_failure fails command.differ list ≡ true → TellsFailure command r
-  failure_told e = go (either (fails_some fails list) (is_several command.differ (length list)) e)
+  pub failure_told : tells_failure fails view.differ list ≡ true → TellsFailure view r
+  failure_told e = go (either (fails_some fails list) (is_several view.differ (length list)) e)
     where
-      go : (fails_some fails list ≡ true) ⊎ (is_several command.differ (length list) ≡ true) → TellsFailure command r
+      go : (fails_some fails list ≡ true) ⊎ (is_several view.differ (length list) ≡ true) → TellsFailure view r
       go (inl some) = inl (some_told fails list some)
       go (inr several) = inr several
 
-  module _ (none : tells_failure fails command.differ list ≡ false) where
-    parts : (fails_some fails list ≡ false) × (is_several command.differ (length list) ≡ false)
-    parts = neither (fails_some fails list) (is_several command.differ (length list)) none
+  module _ (none : tells_failure fails view.differ list ≡ false) where
+    parts : (fails_some fails list ≡ false) × (is_several view.differ (length list) ≡ false)
+    parts = neither (fails_some fails list) (is_several view.differ (length list)) none
 
-    pub untold : TellsFailure command r → ⊥
+    pub untold : TellsFailure view r → ⊥
     untold (inl told) = none-some told.0 (sym (none_told fails list parts.0 told.1.place told.1.ending told.1.there) ∙ told.1.so)
     untold (inr several) = false≢true (sym parts.1 ∙ several)
 
     -- an ending that is told so fails of nothing
-    nothing_fails : (place : ℕ) (p : Point) → IsAt list place (shown_of command.view p) → failing_of fails (first_failing fails p) ≡ None
+    nothing_fails : (place : ℕ) (p : Point) → IsAt list place (shown_of view p) → failing_of fails (first_failing fails p) ≡ None
     unfolding shown_of
     nothing_fails place p at =
         sym (ap (λ (s : Shown). failing_of fails s.fails) at.alike) ∙ none_told fails list parts.0 place at.ending at.there
 
-    pub are_none : FindsAll command.view r → AreNone command r
+    pub are_none : FindsAll view r → AreNone view r
     are_none all = record { fails = no_order; differ = alike }
       where
         no_order : NoneFails (telling_in r.finding) fails
@@ -107,7 +110,7 @@ module _ (command : Command) (r : Report) where
             let look = all.endings order last leads ends in
             none_fails fails last (nothing_fails look.look.look.ending last look.alike) failing among
 
-        alike : command.differ ≡ true → NoneDiffer (telling_in r.finding) command.view
+        alike : view.differ ≡ true → NoneDiffer (telling_in r.finding) view
         alike differ one other p q leads ends leads_other ends_other =
             let here = all.endings one p leads ends in
             let there = all.endings other q leads_other ends_other in
@@ -115,24 +118,24 @@ module _ (command : Command) (r : Report) where
             let low = slice_get_within list here.look.look.ending here.alike.ending here.alike.there in
             let low_other = slice_get_within list there.look.look.ending there.alike.ending there.alike.there in
             let same = one_at_most (length list) there.look.look.ending here.look.look.ending few low_other low in
-            one_shown list here.look.look.ending (shown_of command.view p) (shown_of command.view q) here.alike
-            (subst (λ (k : ℕ). IsAt list k (shown_of command.view q)) same there.alike)
+            one_shown list here.look.look.ending (shown_of view p) (shown_of view q) here.alike
+            (subst (λ (k : ℕ). IsAt list k (shown_of view q)) same there.alike)
 
-    module _ (cmp : List ℕ → List ℕ → Ordering) (states : ℕ) (so : SaysSo cmp states command.view r) where
+    module _ (cmp : List ℕ → List ℕ → Ordering) (limits : Limits) (so : SaysSo cmp limits view r) where
       -- nothing makes an ending a failure
-      pub passes_unasked : asks_failure fails command.differ ≡ false → Passes cmp command r
+      pub passes_unasked : asks_failure fails view.differ ≡ false → Passes cmp view r
       passes_unasked unasked = record {
         untold = untold;
         whole = λ asks. absurd (false≢true (sym unasked ∙ asks));
         none = λ asks tell. absurd (false≢true (sym unasked ∙ asks));
       }
 
-      pub passes_whole : is_whole r.finding.extent ≡ true → Passes cmp command r
+      pub passes_whole : is_whole r.finding.extent ≡ true → Passes cmp view r
       passes_whole e = record {
         untold = untold;
         whole = λ asks. whole_is r.finding.extent e;
         none = λ asks tell. are_none (so.whole (whole_is r.finding.extent e) tell);
       }
 
-      pub is_cut : asks_failure fails command.differ ≡ true → is_whole r.finding.extent ≡ false → IsCut cmp command r
+      pub is_cut : asks_failure fails view.differ ≡ true → is_whole r.finding.extent ≡ false → IsCut cmp view r
       is_cut asks e = record { untold = untold; asks = asks; cut = cut_isnt r.finding.extent e }

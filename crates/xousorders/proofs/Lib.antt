@@ -3,8 +3,13 @@ mod CommandLineLemmas
 mod EndingLemmas
 mod FailureLemmas
 mod FileLemmas
+mod FollowLemmas
+mod KeptLemmas
+mod LevelLemmas
 mod LineLemmas
 mod ReplayLemmas
+mod ResultLemmas
 mod RowLemmas
 mod ShownLemmas
+mod SinkLemmas
 mod ToldLemmas

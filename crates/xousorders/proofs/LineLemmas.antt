@@ -1,5 +1,5 @@
 -- The lines of the endings, one after the other, and the slices that are counted.
-use Rattle.std.proofs.Common.{◌≡◌, ◌<◌, ◌+◌, ◌∙◌, ℕ, suc, List, [], ◌∷◌, ◌++◌, get_or, length, take, take-suc, Option, Some, refl, sym, ap, arith}
+use Rattle.std.proofs.Common.{◌≡◌, ◌<◌, ◌+◌, ◌∙◌, ℕ, suc, List, [], ◌∷◌, ◌++◌, get_or, length, take, take-suc, Option, Some, Result, Ok, Err, OnOk, refl, sym, ap, arith}
 use Rattle.std.specs.Prelude.{map, min, slice_get, sum}
 use Rattle.std.specs.List.{fold}
 use Rattle.std.specs.Option.{option_map_or}
@@ -8,7 +8,7 @@ use Rattle.xousorders.specs.Endings.{looks_at}
 use Rattle.order_model.specs.declared.moves.Note.{Note}
 use Rattle.xousorders.specs.Searched.{slices_tried}
 use Rattle.order_model.specs.declared.failing.Failing.{Failing}
-use Rattle.xousorders.specs.Lines.{ending_line, failure_at, failure_of, failures_below, line_at, lines_below}
+use Rattle.xousorders.specs.Lines.{ending_line, failure_at, failure_of, failures_below, found_line, found_lines, line_at, lines_below}
 use Rattle.xousorders.specs.declared.endings.Ending.{Ending}
 use Rattle.xousorders.specs.declared.endings.Endings.{Endings}
 
@@ -35,6 +35,12 @@ lines_on endings place old so_far more line before put is =
     ∙ ((λ i. before i ++ is i)
     ∙ (append_assoc old (lines_below place endings) (line_at endings place)
     ∙ ap (λ (n : ℕ). old ++ lines_below n endings) (sym on)))
+
+-- two pieces, of which the second may not have been put
+pub two_pieces : {E : Type 0} (r : Result (Unit {0}) E) (old mid new first second : List ℕ) → mid ≡ old ++ first → OnOk r (new ≡ mid ++ second)
+    → OnOk r (new ≡ old ++ (first ++ second))
+two_pieces (Ok x) old mid new first second is then = then ∙ (ap (λ (xs : List ℕ). xs ++ second) is ∙ append_assoc old first second)
+two_pieces (Err e) old mid new first second is then = tt
 
 -- pieces of text, one behind the other
 pub four_pieces : (a b c d one two three four : List ℕ) → one ≡ a → two ≡ one ++ b → three ≡ two ++ c → four ≡ three ++ d
@@ -66,6 +72,27 @@ module _ (fails : List Failing) (list : List Ending) where
   pub failure_there : (place : ℕ) (ending : Ending) → slice_get list place ≡ Some ending
       → failure_at fails list place ≡ failure_of fails (place + 1) ending
   failure_there place ending there = ap (λ (o : Option Ending). option_map_or (failure_of fails (place + 1)) o []) there
+
+-- ---- endings as they are found
+
+-- the line of one more
+pub found_more : (fails : List Failing) (before : ℕ) (list : List Ending) (ending : Ending)
+    → found_lines fails before (list ++ ending ∷ []) ≡ found_lines fails before list ++ found_line fails (before + length list + 1) ending
+unfolding found_lines
+found_more fails before [] ending =
+    let number : before + 1 ≡ before + 0 + 1 = omega arith in
+    append-nil (found_line fails (before + 1) ending) ∙ ap (λ (n : ℕ). found_line fails n ending) number
+found_more fails before (first ∷ list) ending =
+    let number : before + 1 + length list + 1 ≡ before + suc (length list) + 1 = omega arith in
+    ap (λ (xs : List ℕ). found_line fails (before + 1) first ++ xs)
+    (found_more fails (before + 1) list ending
+    ∙ ap (λ (n : ℕ). found_lines fails (before + 1) list ++ found_line fails n ending) number)
+    ∙ sym (append_assoc (found_line fails (before + 1) first) (found_lines fails (before + 1) list)
+    (found_line fails (before + suc (length list) + 1) ending))
+
+pub found_none : (fails : List Failing) (before : ℕ) → found_lines fails before [] ≡ []
+unfolding found_lines
+found_none fails before = refl
 
 -- ---- slices
 

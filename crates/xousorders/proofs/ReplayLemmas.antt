@@ -1,6 +1,6 @@
 -- Event files replay their endings.
-use Rattle.std.proofs.Common.{◌≡◌, ◌∙◌, ◌<◌, ◌≤◌, ◌-◌, ◌⊎◌, inl, inr, ℕ, Bool, true, false, List, [], ◌∷◌, ◌++◌, All, get_or, length, Option, None, Some, refl, sym, ap, subst, arith}
-use Rattle.std.specs.Prelude.{◌==◌, ◌&&◌, if◌then◌else◌, nat_lt, slice_get, IsSome}
+use Rattle.std.proofs.Common.{◌≡◌, ◌∙◌, ◌<◌, ◌≤◌, ◌-◌, ℕ, Bool, true, false, List, [], ◌∷◌, ◌++◌, All, get_or, length, Option, None, Some, refl, sym, ap, subst, arith}
+use Rattle.std.specs.Prelude.{◌==◌, if◌then◌else◌, IsSome}
 use Rattle.std.specs.declared.cmp.Ordering.{Ordering}
 use Rattle.std.specs.List.{list_any}
 use Rattle.std.proofs.lemmas.Bool.{false≢true}
@@ -13,16 +13,17 @@ use Rattle.order_model.specs.Asking.{asked_of}
 use Rattle.order_model.specs.Moves.{events_of}
 use Rattle.order_search.specs.declared.subject.Subject.{Subject}
 use Rattle.order_search.specs.Faults.{IsBegun}
-use Rattle.order_search.specs.Found.{telling_in}
+use Rattle.order_search.specs.Quests.{searching_of}
 use Rattle.order_search.specs.Replays.{EndsAt, OrdersAreReplayed}
 use Rattle.xk_base.specs.declared.limits.TheConstants.{EVENT_FILE_LIMIT, STEP_LIMIT}
 use Rattle.xk_kernel.specs.Start.{start}
 use Rattle.xk_ports.specs.Told.{Grows}
-use Rattle.xousorders.specs.Calls.{AreSpelled, Command, IsReport, Report, Sides, WritesFiles, files_in}
+use Rattle.xousorders.specs.Calls.{Command, IsSubject, Sides, WritesFiles}
 use Rattle.xousorders.specs.Endings.{IsEndingOrder}
 use Rattle.xousorders.specs.Files.{with_feed}
-use Rattle.xousorders.specs.Replayed.{AreReplayed, replay_of}
-use Rattle.xousorders.specs.Searched.{IsSearched}
+use Rattle.xousorders.specs.Levels.{IsLevel, Level, with_preemptions}
+use Rattle.xousorders.specs.Replayed.{AreReplayed}
+use Rattle.xousorders.specs.Reports.{AreSpelled, IsSearchedBehind, Report, files_in}
 use Rattle.xousorders.specs.declared.endings.Ending.{Ending}
 use Rattle.xousorders.specs.declared.view.View.{View}
 
@@ -77,28 +78,36 @@ fed (byte ∷ bytes) whole =
 
 -- ---- what was searched
 
--- the bound of steps doesn't change how the events before are played
-begun_still : (steps : ℕ) (asked searched : Subject) → IsSearched steps asked searched → IsBegun asked → IsBegun searched
-begun_still steps asked searched (inl same) begun = subst IsBegun (sym same) begun
-begun_still steps asked searched (inr bounded) begun = subst IsBegun (sym bounded.is) begun
+-- the bound of steps and the number of preemptions don't change how the events before are played
+begun_still : (steps : ℕ) (view : View) (asked searched : Subject) (preemptions : ℕ) (earlier : Option (List Ending))
+    → IsSearchedBehind steps view (with_preemptions preemptions asked) searched earlier → IsBegun asked → IsBegun searched
+begun_still steps view asked searched preemptions None same begun = subst IsBegun (sym same) begun
+begun_still steps view asked searched preemptions (Some list) behind begun = subst IsBegun (sym behind.0.is) begun
+
+-- .. and not which events may come
+once_still : (steps : ℕ) (view : View) (asked searched : Subject) (preemptions : ℕ) (earlier : Option (List Ending))
+    → IsSearchedBehind steps view (with_preemptions preemptions asked) searched earlier
+    → searched.orders.once.items ≡ asked.orders.once.items
+once_still steps view asked searched preemptions None same = ap (λ (s : Subject). s.orders.once.items) same
+once_still steps view asked searched preemptions (Some list) behind = ap (λ (s : Subject). s.orders.once.items) behind.0.is
 
 -- ---- endings
 
 -- **Each event file replays its ending**, as each order is replayed by its file.
-all_replayed : (law : OrdersAreReplayed) (steps : ℕ) (asked : Subject) (r : Report) (view : View) → IsSearched steps asked r.finding.searched
-    → IsBegun asked → All (IsEndingOrder (telling_in r.finding) view) r.endings.list.items → AreSpelled r
+all_replayed : (law : OrdersAreReplayed) (r : Report) (view : View) → IsBegun r.finding.searched
+    → All (IsEndingOrder (searching_of r.finding.searched) view) r.endings.list.items → AreSpelled r
     → AreReplayed r.finding.searched view r.endings.list.items
-all_replayed law steps asked r view searched begun orders spelled place ending there can =
+all_replayed law r view begun orders spelled place ending there can =
     let s : Subject = r.finding.searched in
     let low : place < length r.endings.list.items = slice_get_within r.endings.list.items place ending there in
     let is : get_or r.endings.list.items place ending ≡ ending = get_or_from_slice_get r.endings.list.items place ending ending there in
-    let order : IsEndingOrder (telling_in r.finding) view ending =
-    subst (IsEndingOrder (telling_in r.finding) view) is (orders place ending low) in
+    let order : IsEndingOrder (searching_of s) view ending =
+    subst (IsEndingOrder (searching_of s) view) is (orders place ending low) in
     let askable : AreAskable (events_of (asked_of s.orders) ending.order.items) =
     subst (λ (e : Ending). AreAskable (events_of (asked_of s.orders) e.order.items)) is (spelled place ending low) in
     let same : with_feed s.before.items ≡ s.before.items = fed s.before.items can.whole in
     let lines : List ℕ = event_lines (events_of (asked_of s.orders) ending.order.items) in
-    let ends = law s ending.order.items order.last (begun_still steps asked s searched begun)
+    let ends = law s ending.order.items order.last begun
     (record {
       whole = can.whole;
       askable = askable;
@@ -112,19 +121,17 @@ all_replayed law steps asked r view searched begun orders spelled place ending t
       shown = order.seen;
     }
 
--- the bound of steps doesn't change which events may come
-once_still : (steps : ℕ) (asked searched : Subject) → IsSearched steps asked searched → searched.orders.once.items ≡ asked.orders.once.items
-once_still steps asked searched (inl same) = ap (λ (s : Subject). s.orders.once.items) same
-once_still steps asked searched (inr bounded) = ap (λ (s : Subject). s.orders.once.items) bounded.is
-
 -- the event files that were written replay the endings that were told
-pub files_written : (cmp : List ℕ → List ℕ → Ordering) (law : OrdersAreReplayed) (command : Command) (sides : Sides) (r : Report)
-    → IsReport cmp sides.files command r → AreAskable command.asking.once → Grows sides.filed sides.filed_after (files_in command.folder r)
-    → (AreAskable r.finding.searched.orders.once.items → IsSome command.folder → AreSpelled r) → WritesFiles command sides r
-files_written cmp law command sides r right askable grows spelled = record {
+pub files_written : (cmp : List ℕ → List ℕ → Ordering) (law : OrdersAreReplayed) (command : Command) (sides : Sides) (asked : Subject)
+    (preemptions : ℕ) (level : Level) → IsSubject sides.files command asked → IsLevel cmp command.limits command.view asked preemptions level
+    → AreAskable command.asking.once → Grows sides.filed sides.filed_after (files_in command.folder level.report)
+    → (AreAskable level.report.finding.searched.orders.once.items → IsSome command.folder → AreSpelled level.report)
+    → WritesFiles command sides level.report
+files_written cmp law command sides asked preemptions level is_asked right askable grows spelled = record {
   files = grows;
   replayed = λ folder.
-      (let same = once_still command.steps right.asked r.finding.searched right.searched ∙ right.is_asked.once in
-      all_replayed law command.steps right.asked r command.view right.searched right.begun right.so.so.endings.orders
-      (spelled (subst AreAskable (sym same) askable) folder));
+      (let searched : Subject = level.report.finding.searched in
+      let same = once_still command.limits.steps command.view asked searched preemptions level.earlier right.behind ∙ is_asked.is_asked.once in
+      let begun = begun_still command.limits.steps command.view asked searched preemptions level.earlier right.behind is_asked.begun in
+      all_replayed law level.report command.view begun right.so.endings.real.orders (spelled (subst AreAskable (sym same) askable) folder));
 }

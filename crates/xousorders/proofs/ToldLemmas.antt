@@ -19,18 +19,25 @@ use Rattle.machine_model.specs.State.Machine.{Machine}
 use Rattle.snapshot_rows.specs.declared.state.State.{State}
 use Rattle.xk_base.specs.declared.limits.TheConstants.{STEP_LIMIT}
 use Rattle.order_search.specs.declared.subject.Subject.{Subject}
-use Rattle.order_search.specs.Found.{FindsAllOrders, FindsNodes, TellsAllOrders, TellsOrders, finding_of, telling_in}
+use Rattle.order_search.specs.Found.{TellsAllOrders, TellsOrders, finding_of, so_far, telling_in}
 use Rattle.order_search.specs.Quests.{start_of}
 use Rattle.order_text.specs.Texts.{seen_text}
 use Rattle.graph_search.proofs.PathLemmas.{later_no_shorter}
-use Rattle.graph_search.specs.Paths.{labels_to}
+use Rattle.graph_search.specs.Paths.{IsInOrder, labels_to}
 use Rattle.graph_search.specs.Told.{IsFound}
-use Rattle.xousorders.specs.Calls.{SaysSo, report_of}
-use Rattle.xousorders.specs.Endings.{AreEndings, AreShortest, IsAt, IsEndingOf, IsWithin, Shown, TellsAllEndings, TellsEndings}
-use Rattle.xousorders.specs.Endings.{ends_at, failing_of, node_shown, shown_in, shown_of}
+use Rattle.graph_search.specs.declared.found.Extent.{Extent}
+use Rattle.graph_search.specs.declared.found.Strategy.{Strategy}
+use Rattle.graph_search.specs.declared.found.Strategy.TheVariants.{Breadth}
+use Rattle.graph_search.specs.declared.search.Search.{Search}
+use Rattle.program_status.specs.Notes.{SinkSide}
+use Rattle.xousorders.specs.Endings.{AreEndings, AreReal, AreShortest, IsAt, IsEndingOf, IsWithin, Shown, TellsAllEndings, TellsEndings}
+use Rattle.xousorders.specs.Endings.{ends_at, failing_of, node_shown, searching_in, shown_in, shown_of}
+use Rattle.xousorders.specs.Halts.{Finds, Follows, HasGot}
+use Rattle.xousorders.specs.Reports.{SaysSo}
 use Rattle.xousorders.specs.declared.endings.Ending.{Ending}
 use Rattle.xousorders.specs.declared.endings.Endings.{Endings}
-use Rattle.xousorders.specs.declared.run.Told.{Told}
+use Rattle.xousorders.specs.declared.limits.Limits.{Limits}
+use Rattle.xousorders.specs.declared.search.Told.{Told}
 use Rattle.xousorders.specs.declared.view.View.{View}
 use Rattle.xousorders.proofs.EndingLemmas.{ended}
 use Rattle.xousorders.proofs.ShownLemmas.{fails_told, shown_alike}
@@ -71,8 +78,10 @@ module _ (t : Telling) (view : View) where
   unfolding shown_of
   failing_there ending p seen = ap (λ (s : Shown). failing_of view.fails.items s.fails) seen
 
-  pub each_told : (endings : Endings) → AreEndings t view (length t.notes) endings → IsSound t → TellsOrders t → TellsEndings t view endings
-  each_told endings are sound tells = record {
+  -- endings of nodes that a search found are real
+  pub all_real : (n : ℕ) (endings : Endings) → AreEndings t view n endings → IsSound t → TellsOrders t
+      → AreReal (searching_in t) view endings.list.items
+  all_real n endings are sound tells = record {
     orders = λ k d low.
         (let ending : Ending = get_or endings.list.items k d in
         let is : IsEndingOf t view ending = are.each k d low in
@@ -90,6 +99,11 @@ module _ (t : Telling) (view : View) where
           fails = λ failing so. fails_told view.fails.items told.last failing (sym (failing_there ending told.last seen) ∙ so);
         });
     different = are.different;
+  }
+
+  each_told : (endings : Endings) → AreEndings t view (length t.notes) endings → IsSound t → TellsOrders t → TellsEndings t view endings
+  each_told endings are sound tells = record {
+    real = all_real (length t.notes) endings are sound tells;
     nodes = are.nodes;
     counts = are.counts;
   }
@@ -111,7 +125,7 @@ module _ (t : Telling) (view : View) where
           low = slice_get_within t.notes told.number (note_of t.asked last.state) told.noted;
         }
 
-    pub all_told : TellsAllEndings t view endings
+    all_told : TellsAllEndings t view endings
     all_told order last leads ends =
         let end = told_end order last leads ends in
         let look = are.all end.told.number end.low end.ends in
@@ -122,36 +136,50 @@ module _ (t : Telling) (view : View) where
           alike = subst (IsAt endings.list.items look.look.ending) (told_alike matched end.told.number last end.told.found) look.alike;
         }
 
-    pub all_shortest : IsSound t → AreShortest t view endings
-    all_shortest sound place ending order last there leads ends alike =
+    all_shortest : IsSound t → t.strategy ≡ Breadth → AreShortest t view endings
+    all_shortest sound breadth place ending order last there leads ends alike =
         let end = told_end order last leads ends in
         let same : node_shown t view end.told.number ≡ shown_in ending = told_alike matched end.told.number last end.told.found ∙ alike in
         let first : ending.first ≤ end.told.number = (are.first place ending there).least end.told.number end.low end.ends same in
         let shorter : length (labels_to t.edges ending.first) ≤ length (labels_to t.edges end.told.number) =
-        later_no_shorter t.edges sound.tree sound.in_order ending.first end.told.number first end.told.found.told in
+        later_no_shorter t.edges sound.tree (subst (λ (by : Strategy). IsInOrder by t.edges) breadth sound.in_order) ending.first end.told.number first end.told.found.told in
         let here : get_or endings.list.items place ending ≡ ending = get_or_from_slice_get endings.list.items place ending ending there in
         let is : IsEndingOf t view ending =
         subst (IsEndingOf t view) here (are.each place ending (slice_get_within endings.list.items place ending there)) in
         let size : length ending.order.items ≡ length (labels_to t.edges ending.first) = ap length is.order in
-        let most = end.told.no_longer in
+        let most = end.told.no_longer breadth in
         omega (arith, shorter, size, most)
 
--- what a search says, also where the search has the same subject then
-pub says_so : {cmp : List ℕ → List ℕ → Ordering} (states : ℕ) (view : View) (s later : Subject) (told : Told) → later ≡ s
-    → Matched (start_of s).state → FindsNodes states (finding_of s told.found) → FindsAllOrders cmp (finding_of s told.found)
-    → AreEndings (telling_in (finding_of s told.found)) view (length told.found.notes.items) told.endings
-    → SaysSo cmp states view (report_of later told)
-says_so {cmp = cmp} states view s later told same matched nodes whole are =
-    let t : Telling = telling_in (finding_of s told.found) in
-    let here : SaysSo cmp states view (report_of s told) = record {
-      nodes = nodes;
-      endings = each_told t view told.endings are nodes.found nodes.orders;
-      whole = λ is tell.
-          (let all = whole is tell in
-          record {
-            orders = all;
-            endings = all_told t view matched told.endings are all;
-            shortest = all_shortest t view matched told.endings are all nodes.found;
-          });
-    } in
-    subst (λ (x : Subject). SaysSo cmp states view (report_of x told)) (sym same) here
+-- ---- what a search says
+
+-- what was followed this far, as it was found
+module _ (cmp : List ℕ → List ℕ → Ordering) (limits : Limits) (view : View) (s : Subject) (matched : Matched (start_of s).state)
+    (search : Search Move (List ℕ) Note) (endings : Endings) (sink : SinkSide) (extent : Extent)
+    (follows : Follows cmp limits view s search endings sink extent) (strategy : search.strategy ≡ limits.strategy) where
+  says_so_far : SaysSo cmp limits view (record { finding = so_far s search extent; endings = endings })
+  says_so_far = record {
+    nodes = follows.nodes;
+    endings = each_told (telling_in (so_far s search extent)) view endings follows.endings_are follows.nodes.found follows.nodes.orders;
+    whole = λ is tell.
+        (let all = follows.orders is tell in
+        record {
+          orders = all;
+          endings = all_told (telling_in (so_far s search extent)) view matched endings follows.endings_are all;
+          shortest = all_shortest (telling_in (so_far s search extent)) view matched endings follows.endings_are all follows.nodes.found;
+        });
+    strategy = strategy;
+    stopped = follows.stopped;
+    first = follows.first;
+  }
+
+  -- .. and as it was put
+  pub finds_so : (told : Told) → told.found.strategy ≡ search.strategy → told.found.edges.items ≡ search.edges.items
+      → told.found.notes.items ≡ search.notes.items → told.found.extent ≡ extent → told.endings ≡ endings
+      → Finds cmp limits view s sink told
+  finds_so told by edges notes ends same =
+      let finding : so_far s search extent ≡ finding_of s told.found =
+      λ i. record { searched = s; strategy = sym by i; edges = sym edges i; notes = sym notes i; extent = sym ends i } in
+      record {
+        so = subst (SaysSo cmp limits view) (λ i. record { finding = finding i; endings = sym same i }) says_so_far;
+        got = subst (λ (e : Endings). HasGot view sink e.list.items) (sym same) follows.got;
+      }

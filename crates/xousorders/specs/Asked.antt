@@ -11,8 +11,8 @@ use Rattle.xk_base.specs.declared.events.Event.{Event}
 use Rattle.xk_base.specs.declared.limits.TheConstants.{EVENT_FILE_LIMIT}
 use Rattle.program_status.specs.Plans.{IsSoundImage}
 use Rattle.program_status.specs.declared.status.Status.{Status}
-use Rattle.xousorders.specs.Searched.{IsSearched, IsStopped}
-use Rattle.program_status.specs.declared.status.Status.TheVariants.{EventFault, ImageFault, NoMemory, ReadFault, StepLimit}
+use Rattle.xousorders.specs.Searched.{IsStopped}
+use Rattle.program_status.specs.declared.status.Status.TheVariants.{EventFault, ImageFault, NoMemory, ReadFault, StepLimit, WriteFault}
 
 -- the files of the host by their names, where they are told
 abbrev pub HostFiles : Type 0
@@ -43,7 +43,7 @@ abbrev pub IsBefore : HostFiles → Option (List ℕ) → List ℕ → Type 0
 IsBefore files None bytes = bytes ≡ []
 IsBefore files (Some name) bytes = IsFile files name bytes
 
--- what is searched is what is asked for, without a bound of steps
+-- what is searched is what is asked for, without preemptions and without a bound of steps
 pub record IsAsked (files : HostFiles) (asking : Asking) (s : Subject) : Type 0 where
   pub image : IsFile files asking.image s.file.items
   pub planned : IsPlanOf s.file.items s.plan
@@ -52,6 +52,7 @@ pub record IsAsked (files : HostFiles) (asking : Asking) (s : Subject) : Type 0 
   pub bound : s.orders.bound ≡ None
   pub once : s.orders.once.items ≡ asking.once
   pub exits : s.orders.exits ≡ asking.exits
+  pub preemptions : s.orders.preemptions ≡ 0
 
 -- ---- files that aren't
 
@@ -77,20 +78,19 @@ RefusesEvents files name host_rose ReadFault = host_rose ⊎ IsTooLong files nam
 RefusesEvents files name host_rose NoMemory = Unit {0}
 RefusesEvents files name host_rose status = ⊥
 
--- the search that was asked for isn't begun, or isn't gone on with, for this reason
-pub record IsStoppedSearch (files : HostFiles) (asking : Asking) (steps : ℕ) (status : Status) : Type 0 where
+-- the events before aren't played whole, for this reason
+pub record IsUnplayedBefore (files : HostFiles) (asking : Asking) (status : Status) : Type 0 where
   pub asked : Subject
   pub is_asked : IsAsked files asking asked
-  pub searched : Subject
-  pub is_searched : IsSearched steps asked searched
-  pub why : IsStopped searched status
+  pub why : IsStopped asked status
 
--- Why nothing is told, by the status: the image has this first fault; a file wasn't read, as the host failed or the events before are too
--- long; the search was stopped, by the first bad line of these or by the step limit; there is no memory.
-abbrev pub Stops : HostFiles → Asking → ℕ → Type 0 → Status → Type 0
-Stops files asking steps host_rose (ImageFault fault) = HasFault files asking.image fault
-Stops files asking steps host_rose ReadFault = host_rose ⊎ IsTooLong files asking.before
-Stops files asking steps host_rose (EventFault line) = IsStoppedSearch files asking steps (EventFault line)
-Stops files asking steps host_rose (StepLimit limit) = IsStoppedSearch files asking steps (StepLimit limit)
-Stops files asking steps host_rose NoMemory = Unit {0}
-Stops files asking steps host_rose status = ⊥
+-- Why no search begins, by the status: the image has this first fault; a file wasn't read, as the host failed or the events before are too
+-- long; these have a first bad line, or meet the step limit; the folder for event files can't be opened; there is no memory.
+abbrev pub Stops : HostFiles → Asking → Type 0 → Type 0 → Status → Type 0
+Stops files asking host_rose unopened (ImageFault fault) = HasFault files asking.image fault
+Stops files asking host_rose unopened ReadFault = host_rose ⊎ IsTooLong files asking.before
+Stops files asking host_rose unopened (EventFault line) = IsUnplayedBefore files asking (EventFault line)
+Stops files asking host_rose unopened (StepLimit limit) = IsUnplayedBefore files asking (StepLimit limit)
+Stops files asking host_rose unopened WriteFault = unopened
+Stops files asking host_rose unopened NoMemory = Unit {0}
+Stops files asking host_rose unopened status = ⊥

@@ -9,6 +9,7 @@ use Rattle.order_model.specs.Failing.{fails_of, first_failing}
 use Rattle.order_model.specs.Moves.{Point, leads_by}
 use Rattle.order_model.specs.Nodes.{after, node_of}
 use Rattle.order_model.specs.Searches.{Telling}
+use Rattle.order_search.specs.Quests.{Searching}
 use Rattle.order_text.specs.Texts.{seen_text}
 use Rattle.graph_search.specs.Paths.{labels_to}
 use Rattle.graph_search.specs.Told.{IsFound}
@@ -135,6 +136,10 @@ pub record IsNew (node : ℕ) (order : List Move) (shown : Shown) (old new : Lis
   pub none : NoneIs old shown
   pub list : new ≡ old ++ ending ∷ []
 
+-- no ending was added, or one
+abbrev pub AddsOne : List Ending → List Ending → Type 0
+AddsOne old new = (new ≡ old) ⊎ ((ending : Ending) × (new ≡ old ++ ending ∷ []))
+
 -- no ending was added, or that of this node
 abbrev pub Lists : ℕ → List Move → Shown → List Ending → List Ending → Type 0
 Lists node order shown old new = (new ≡ old) ⊎ IsNew node order shown old new
@@ -150,13 +155,18 @@ pub record Adds (node : ℕ) (order : List Move) (shown : Shown) (old new : Endi
 
 -- The order of the ending leads from the start to a point where orders end, in no more steps than a run may have. What is told is so there:
 -- what is seen, and of what it fails.
-pub record IsEndingOrder (t : Telling) (view : View) (ending : Ending) : Type 0 where
+pub record IsEndingOrder (q : Searching) (view : View) (ending : Ending) : Type 0 where
   pub last : Point
-  pub leads : leads_by t.asked t.start ending.order.items ≡ Some last
-  pub ends : is_ending t.asked last.state ≡ true
+  pub leads : leads_by q.asked q.start ending.order.items ≡ Some last
+  pub ends : is_ending q.asked last.state ≡ true
   pub within : last.state.steps ≤ STEP_LIMIT
   pub seen : shown_in ending ≡ shown_of view last
   pub fails : (failing : Failing) → failing_of view.fails.items ending.fails ≡ Some failing → fails_of failing last ≡ true
+
+-- **Endings are real**: the order of each leads where orders end, where what is told is seen and where it fails so; no two are told alike.
+pub record AreReal (q : Searching) (view : View) (list : List Ending) : Type 0 where
+  pub orders : All (IsEndingOrder q view) list
+  pub different : AreDifferent list
 
 -- the point's node is told to be like one of the endings, which is told as the point is
 pub record LooksLike (t : Telling) (view : View) (endings : Endings) (p : Point) : Type 0 where
@@ -165,11 +175,12 @@ pub record LooksLike (t : Telling) (view : View) (endings : Endings) (p : Point)
   pub look : IsLook t view endings node
   pub alike : IsAt endings.list.items look.look.ending (shown_of view p)
 
--- **Sound**: the order of each ending that is told leads where orders end, where what is told is seen and where it fails so; no two of them
--- are told alike; and each node where orders end is counted once, with the ending that it is like.
+abbrev pub searching_in : Telling → Searching
+searching_in t = record { asked = t.asked; start = t.start }
+
+-- **Sound**: the endings that are told are real, and each node where orders end is counted once, with the ending that it is like.
 pub record TellsEndings (t : Telling) (view : View) (endings : Endings) : Type 0 where
-  pub orders : All (IsEndingOrder t view) endings.list.items
-  pub different : AreDifferent endings.list.items
+  pub real : AreReal (searching_in t) view endings.list.items
   pub nodes : AreNodes t (length t.notes) endings
   pub counts : CountsNodes t view (length t.notes) endings
 

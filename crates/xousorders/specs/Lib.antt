@@ -4,7 +4,10 @@ pub mod CommandLine
 pub mod Endings
 pub mod Failures
 pub mod Files
+pub mod Halts
+pub mod Levels
 pub mod Lines
 pub mod Outcomes
 pub mod Replayed
+pub mod Reports
 pub mod Searched

@@ -1,11 +1,14 @@
 -- The lines of what a search found.
-use Rattle.std.specs.Prelude.{ℕ, zero, suc, ◌+◌, ◌==◌, Bool, true, false, List, [], ◌++◌, codes, decimal, filter, if◌then◌else◌, length, slice_get, Option, Some, None}
+use Rattle.std.specs.Prelude.{ℕ, zero, suc, ◌+◌, ◌==◌, Bool, true, false, List, [], ◌∷◌, ◌++◌, codes, decimal, filter, if◌then◌else◌, length, slice_get, Option, Some, None}
 use Rattle.std.specs.Option.{option_map_or}
 use Rattle.order_model.specs.declared.failing.Failing.{Failing}
 use Rattle.order_model.specs.declared.moves.Move.{Move}
-use Rattle.order_model.specs.declared.moves.Move.TheVariants.{Once, Slice}
+use Rattle.order_model.specs.declared.moves.Move.TheVariants.{Once, Preempted, Slice}
+use Rattle.order_model.specs.Orders.{preemptions_in}
 use Rattle.graph_search.specs.declared.found.Extent.{Extent}
 use Rattle.graph_search.specs.declared.found.Extent.TheVariants.{Cut, Whole}
+use Rattle.graph_search.specs.declared.found.Strategy.{Strategy}
+use Rattle.graph_search.specs.declared.found.Strategy.TheVariants.{Breadth, Depth}
 use Rattle.order_text.specs.Failings.{failing_text}
 use Rattle.xousorders.specs.Endings.{failing_of, looks_at}
 use Rattle.xousorders.specs.Failures.{is_several}
@@ -22,27 +25,45 @@ extent_text (Cut why) = codes " cut"
 
 -- the bound of steps, where there is one
 abbrev pub bound_text : Option ℕ → List ℕ
-bound_text None = codes "\n"
-bound_text (Some steps) = codes " within " ++ (decimal steps ++ codes " steps\n")
+bound_text None = []
+bound_text (Some steps) = codes " within " ++ (decimal steps ++ codes " steps")
 
--- how much was searched, and within which bound
-abbrev pub extent_line : ℕ → ℕ → Extent → Option ℕ → List ℕ
-extent_line states slices extent bound =
-    codes "states " ++ (decimal states ++ (codes " slices " ++ (decimal slices ++ (extent_text extent ++ bound_text bound))))
+-- how many slices of an order are preempted at most, which searches depth first tell
+abbrev pub level_text : Strategy → ℕ → List ℕ
+level_text Breadth preemptions = []
+level_text Depth preemptions = codes " preemptions " ++ decimal preemptions
 
+-- within which limits orders were searched
+abbrev pub limits_text : Option ℕ → Strategy → ℕ → List ℕ
+limits_text bound strategy preemptions = bound_text bound ++ (level_text strategy preemptions ++ codes "\n")
+
+-- how much was searched
+abbrev pub extent_head : ℕ → ℕ → Extent → List ℕ
+extent_head states slices extent = codes "states " ++ (decimal states ++ (codes " slices " ++ (decimal slices ++ extent_text extent)))
+
+-- a preempted slice is one too
 abbrev pub is_slice : Move → Bool
 is_slice (Slice who steps) = true
+is_slice (Preempted who steps) = true
 is_slice (Once k) = false
 
 -- how many slices an order has
 abbrev pub slices_in : List Move → ℕ
 slices_in order = length (filter is_slice order)
 
+-- how many of them are preempted, if some are
+abbrev pub preempted_text : ℕ → List ℕ
+preempted_text n = if n == 0 then [] else codes ", " ++ counted n (codes "preemption")
+
+-- how long an order is
+abbrev pub size_text : List Move → List ℕ
+size_text order = counted (slices_in order) (codes "slice") ++ preempted_text (preemptions_in order)
+
 abbrev pub ending_head : ℕ → List ℕ → List ℕ
 ending_head number seen = codes "ending " ++ (decimal number ++ (codes ": " ++ seen))
 
 abbrev pub ending_counts : ℕ → List Move → List ℕ
-ending_counts nodes order = counted nodes (codes "node") ++ (codes "; " ++ (counted (slices_in order) (codes "slice") ++ codes "\n"))
+ending_counts nodes order = counted nodes (codes "node") ++ (codes "; " ++ (size_text order ++ codes "\n"))
 
 -- an ending that is told so, of so many nodes, with the order to the first of them
 abbrev pub ending_line : ℕ → List ℕ → ℕ → List Move → List ℕ
@@ -73,7 +94,7 @@ abbrev pub failure_line : Failing → ℕ → List Move → List ℕ
 failure_line failing number order =
     codes "fails: "
     ++ (failing_text failing
-    ++ (codes " in ending " ++ (decimal number ++ (codes ", " ++ (counted (slices_in order) (codes "slice") ++ codes "\n")))))
+    ++ (codes " in ending " ++ (decimal number ++ (codes ", " ++ (size_text order ++ codes "\n")))))
 
 -- the line of the ending of this number, if it fails of one of these
 abbrev pub failure_of : List Failing → ℕ → Ending → List ℕ
@@ -96,3 +117,28 @@ failures_text fails list = failures_below (length list) fails list
 abbrev pub differ_text : Bool → ℕ → List ℕ
 differ_text differ count =
     if is_several differ count then codes "fails: differ, " ++ (counted count (codes "ending") ++ codes "\n") else []
+
+-- ---- endings as they are found
+
+abbrev pub found_head : ℕ → List ℕ → List ℕ
+found_head number seen = codes "found " ++ (decimal number ++ (codes ": " ++ seen))
+
+-- of what it fails, if it does
+abbrev pub fails_text : Option Failing → List ℕ
+fails_text None = []
+fails_text (Some failing) = codes "; fails: " ++ failing_text failing
+
+-- the line of an ending of this number when it is found: what is seen of it, how long its order is, and of what it fails
+abbrev pub found_line : List Failing → ℕ → Ending → List ℕ
+found_line fails number ending =
+    found_head number ending.seen.items
+    ++ (size_text ending.order.items ++ (fails_text (failing_of fails ending.fails) ++ codes "\n"))
+
+-- the lines of endings that are found behind so many others
+unfoldable pub found_lines : List Failing → ℕ → List Ending → List ℕ
+found_lines fails before [] = []
+found_lines fails before (ending ∷ endings) = found_line fails (before + 1) ending ++ found_lines fails (before + 1) endings
+
+-- the line that steps are counted from now on, and endings are found anew
+abbrev pub counting_line : List ℕ
+counting_line = codes "steps count\n"

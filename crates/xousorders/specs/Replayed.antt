@@ -3,12 +3,10 @@ use Rattle.std.specs.Prelude.{◌≡◌, ◌≤◌, ℕ, List, length, slice_get
 use Rattle.event_player.specs.History.{run_of}
 use Rattle.event_text.specs.Lines.{whole_lines}
 use Rattle.order_model.specs.Asking.{asked_of}
-use Rattle.order_model.specs.Endings.{seen_of}
 use Rattle.order_model.specs.Moves.{Point, leads_by}
 use Rattle.order_search.specs.declared.subject.Subject.{Subject}
 use Rattle.order_search.specs.Quests.{start_of}
 use Rattle.order_search.specs.Replays.{EndsAt}
-use Rattle.order_text.specs.Texts.{seen_text}
 use Rattle.xk_base.specs.declared.limits.TheConstants.{EVENT_FILE_LIMIT, STEP_LIMIT}
 use Rattle.xk_kernel.specs.Start.{start}
 use Rattle.xousorders.specs.declared.endings.Ending.{Ending}

@@ -1,9 +1,13 @@
 -- Which orders were searched, and why they aren't searched on.
-use Rattle.std.specs.Prelude.{◌≡◌, ◌⊎◌, ℕ, List, map, min, Some, sum}
+use Rattle.std.specs.Prelude.{◌≡◌, ℕ, List, map, min, Some, sum}
+use Rattle.graph_search.specs.declared.search.Search.{Search}
+use Rattle.order_model.specs.declared.moves.Move.{Move}
 use Rattle.order_model.specs.declared.moves.Note.{Note}
+use Rattle.order_model.specs.Searches.{Telling}
 use Rattle.order_search.specs.declared.quest.OrderFault.TheVariants.{Line, Steps}
 use Rattle.order_search.specs.declared.subject.Subject.{Subject}
 use Rattle.order_search.specs.Faults.{ComesToTimer, IsFault}
+use Rattle.order_search.specs.Found.{telling_of}
 use Rattle.order_search.specs.Quests.{searching_of}
 use Rattle.program_status.specs.declared.status.Status.{Status}
 use Rattle.program_status.specs.declared.status.Status.TheVariants.{EventFault, NoMemory, StepLimit}
@@ -18,9 +22,9 @@ pub record IsBounded (steps : ℕ) (asked searched : Subject) : Type 0 where
   pub timer : ComesToTimer (searching_of asked)
   pub is : searched ≡ bounded steps asked
 
--- The orders that were asked for were searched; or those with the bound, only where one comes to a claim of the timer's interrupt.
-abbrev pub IsSearched : ℕ → Subject → Subject → Type 0
-IsSearched steps asked searched = (searched ≡ asked) ⊎ IsBounded steps asked searched
+-- what a search of these orders tells so far
+abbrev pub telling_at : Subject → Search Move (List ℕ) Note → Telling
+telling_at s search = telling_of (searching_of s) search.strategy search.edges.items search.notes.items
 
 -- how many slices were tried from the nodes that were followed; more than 64 bits hold aren't counted
 abbrev pub slices_tried : List Note → ℕ

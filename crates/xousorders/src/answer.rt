@@ -1,39 +1,17 @@
 //! What is told of a search.
 
 ghost use Rattle.std.specs.Prelude.{◌≡◌, ◌++◌, OnOk};
-ghost use Rattle.xousorders.specs.Lines.{bound_text, counted, differ_text, ending_counts, ending_head, ending_line, endings_text, extent_line, extent_text};
-ghost use Rattle.xousorders.specs.Lines.{failure_line, failure_of, failures_text, slices_in};
+ghost use Rattle.xousorders.specs.Lines.{bound_text, differ_text, ending_counts, ending_head, ending_line, endings_text, extent_head, extent_text};
+ghost use Rattle.xousorders.specs.Lines.{failure_line, failure_of, failures_text, level_text, limits_text};
 ghost use Rattle.xousorders.specs.Searched.{slices_tried as slices_tried_by};
 
 use crate::endings::{Ending, Endings, count_looks};
 use crate::failures::{failing_of, is_several};
-use graph_search::{Cut, Extent};
+use crate::sizes::{put_counted, put_size};
+use graph_search::{Cut, Extent, Strategy};
 use order_model::{Failing, Move, Note};
 use order_text::{put, put_failing, put_number};
 use std::alloc::AllocError;
-
-/// A number with its noun.
-fn put_counted(text: &mut Vec<u8>, count: u64, noun: &[u8]) -> Result<(), AllocError>
-    ensures { OnOk result (text.new.items ≡ text.old.items ++ counted count noun.now) }
-{
-    put_number(text, count)?;
-    text.push(b' ')?;
-    put(text, noun)?;
-    if count != 1 {
-        text.push(b's')?;
-    }
-    Ok(())
-}
-
-/// How many slices an order has.
-fn slices_of(order: &[Move]) -> u64
-    ensures { result ≡ slices_in order.now }
-{
-    order
-        .iter()
-        .filter(|next| matches!(next, Move::Slice(_, _)))
-        .count() as u64
-}
 
 /// How many slices were tried from the nodes with these notes.
 pub fn slices_tried(notes: &[Note]) -> u64
@@ -52,7 +30,7 @@ fn put_how_far(text: &mut Vec<u8>, extent: Extent) -> Result<(), AllocError>
 {
     match extent {
         Extent::Whole => put(text, b" whole"),
-        Extent::Cut(Cut::Nodes) | Extent::Cut(Cut::Memory) => put(text, b" cut"),
+        Extent::Cut(Cut::Nodes | Cut::Memory | Cut::Stopped) => put(text, b" cut"),
     }
 }
 
@@ -61,31 +39,56 @@ fn put_bound(text: &mut Vec<u8>, bound: Option<u32>) -> Result<(), AllocError>
     ensures { OnOk result (text.new.items ≡ text.old.items ++ bound_text bound) }
 {
     match bound {
-        None => put(text, b"\n"),
+        None => Ok(()),
         Some(steps) => {
             put(text, b" within ")?;
             put_number(text, u64::from(steps))?;
-            put(text, b" steps\n")
+            put(text, b" steps")
         }
     }
 }
 
-/// The line of how much was searched, and within which bound.
+/// How many slices of an order are preempted at most, if the search is one depth first.
+fn put_level(text: &mut Vec<u8>, strategy: Strategy, preemptions: u32) -> Result<(), AllocError>
+    ensures { OnOk result (text.new.items ≡ text.old.items ++ level_text strategy preemptions) }
+{
+    match strategy {
+        Strategy::Breadth => Ok(()),
+        Strategy::Depth => {
+            put(text, b" preemptions ")?;
+            put_number(text, u64::from(preemptions))
+        }
+    }
+}
+
+/// Within which limits orders were searched.
+pub fn put_limits(
+    text: &mut Vec<u8>,
+    bound: Option<u32>,
+    strategy: Strategy,
+    preemptions: u32,
+) -> Result<(), AllocError>
+    ensures { OnOk result (text.new.items ≡ text.old.items ++ limits_text bound strategy preemptions) }
+{
+    put_bound(text, bound)?;
+    put_level(text, strategy, preemptions)?;
+    put(text, b"\n")
+}
+
+/// How much was searched.
 pub fn put_extent(
     text: &mut Vec<u8>,
     states: u64,
     slices: u64,
     extent: Extent,
-    bound: Option<u32>,
 ) -> Result<(), AllocError>
-    ensures { OnOk result (text.new.items ≡ text.old.items ++ extent_line states slices extent bound) }
+    ensures { OnOk result (text.new.items ≡ text.old.items ++ extent_head states slices extent) }
 {
     put(text, b"states ")?;
     put_number(text, states)?;
     put(text, b" slices ")?;
     put_number(text, slices)?;
-    put_how_far(text, extent)?;
-    put_bound(text, bound)
+    put_how_far(text, extent)
 }
 
 /// The number of an ending, and what is seen of it.
@@ -98,13 +101,13 @@ fn put_head(text: &mut Vec<u8>, number: u64, seen: &[u8]) -> Result<(), AllocErr
     put(text, seen)
 }
 
-/// Of how many nodes it is, and how many slices the order to the first has.
+/// Of how many nodes it is, and how long the order to the first is.
 fn put_counts(text: &mut Vec<u8>, nodes: u64, order: &[Move]) -> Result<(), AllocError>
     ensures { OnOk result (text.new.items ≡ text.old.items ++ ending_counts nodes order.now) }
 {
     put_counted(text, nodes, b"node")?;
     put(text, b"; ")?;
-    put_counted(text, slices_of(order), b"slice")?;
+    put_size(text, order)?;
     put(text, b"\n")
 }
 
@@ -150,7 +153,7 @@ fn put_failure(
     put(text, b" in ending ")?;
     put_number(text, number)?;
     put(text, b", ")?;
-    put_counted(text, slices_of(order), b"slice")?;
+    put_size(text, order)?;
     text.push(b'\n')?;
     Ok(())
 }

@@ -8,7 +8,7 @@ ghost use Rattle.xousorders.specs.CommandLine.{EndsFor};
 use crate::event_files::EventFiles;
 use crate::outcome::Outcome;
 use crate::run::run;
-use graph_search::Watch;
+use crate::watching::Watch;
 use order_words::{Unread, read_words};
 use program_status::Status;
 use std::alloc::Global;

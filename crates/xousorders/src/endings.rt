@@ -1,16 +1,15 @@
 //! The endings of a search: those that are told alike are one.
 
-ghost use Rattle.std.specs.Prelude.{◌≡◌, ◌<◌, ◌+◌, IfErr, IfSome, IfOk, OnOk, None, length, true};
+ghost use Rattle.std.specs.Prelude.{◌≡◌, ◌<◌, ◌+◌, IfErr, IfSome, IfOk, OnOk, None, [], length, true};
 ghost use Rattle.order_model.specs.Searches.{IsSound};
-ghost use Rattle.order_search.specs.Found.{TellsOrders, telling_of};
-ghost use Rattle.order_search.specs.Quests.{searching_of};
-ghost use Rattle.xousorders.specs.Endings.{Adds, AreEndings, IsAt, Lists, NoneIs, ends_at, looks_at};
+ghost use Rattle.order_search.specs.Found.{TellsOrders};
+ghost use Rattle.xousorders.specs.Endings.{Adds, AddsOne, AreEndings, IsAt, Lists, NoneIs, ends_at, looks_at};
 ghost use Rattle.xousorders.specs.Endings.{same_place as same_place_of, same_shown, shown_in};
-ghost use Rattle.xousorders.specs.Searched.{IsStopped};
+ghost use Rattle.xousorders.specs.Searched.{IsStopped, telling_at};
 
 use crate::outcome::unplayed;
 use crate::view::View;
-use graph_search::{Found, path_to};
+use graph_search::{Search, path_to};
 use order_model::{Move, Note, first_failing};
 use order_search::{Quest, Stand};
 use order_text::put_seen;
@@ -39,6 +38,19 @@ pub struct Look {
 pub struct Endings {
     pub list: Vec<Ending>,
     pub looks: Vec<Look>,
+}
+
+impl Endings {
+    /// None yet.
+    pub fn new(alloc: Global) -> Endings
+        ensures list { result.list.items ≡ [] }
+        ensures looks { result.looks.items ≡ [] }
+    {
+        Endings {
+            list: Vec::new(alloc),
+            looks: Vec::new(alloc),
+        }
+    }
 }
 
 /// Whether two endings fail of the same.
@@ -118,23 +130,21 @@ fn see(
     alloc: Global,
     quest: &mut Quest,
     view: &View<'_>,
-    found: &Found<Move, Note>,
+    search: &Search<Move, [u8; 32], Note>,
     node: usize,
     endings: &mut Endings,
 ) -> Result<(), Status>
-    requires sound { let q = searching_of quest.old.subject in IsSound (telling_of q found.now.edges.items found.now.notes.items) }
-    requires told { let q = searching_of quest.old.subject in
-        TellsOrders (telling_of q found.now.edges.items found.now.notes.items) }
-    requires node { node < length found.now.notes.items }
-    requires ends { let q = searching_of quest.old.subject in
-        ends_at (telling_of q found.now.edges.items found.now.notes.items) node ≡ true }
-    ensures adds { let q = searching_of quest.old.subject in
-        let t = telling_of q found.now.edges.items found.now.notes.items in
+    requires sound { IsSound (telling_at quest.old.subject search.now) }
+    requires told { TellsOrders (telling_at quest.old.subject search.now) }
+    requires node { node < length search.now.notes.items }
+    requires ends { ends_at (telling_at quest.old.subject search.now) node ≡ true }
+    ensures adds { let t = telling_at quest.old.subject search.now in
         OnOk result (AreEndings t view.now node endings.old → AreEndings t view.now (node + 1) endings.new) }
+    ensures one { OnOk result (AddsOne endings.old.list.items endings.new.list.items) }
     ensures subject { quest.new.subject ≡ quest.old.subject }
     ensures stopped { IfErr result (IsStopped quest.old.subject) }
 {
-    let order = path_to(alloc, &found.edges, node)?;
+    let order = path_to(alloc, search.edges(), node)?;
     let Stand { state, trail } = match quest.stand(&order) {
         Ok(stand) => stand,
         Err(answer) => return Err(unplayed(answer)),
@@ -146,57 +156,30 @@ fn see(
     Ok(())
 }
 
-/// So it is where the node is one where orders end.
-fn pass(
+/// So it is if the node is one where orders end.
+pub fn pass(
     alloc: Global,
     quest: &mut Quest,
     view: &View<'_>,
-    found: &Found<Move, Note>,
+    search: &Search<Move, [u8; 32], Note>,
     node: usize,
     endings: &mut Endings,
 ) -> Result<(), Status>
-    requires sound { let q = searching_of quest.old.subject in IsSound (telling_of q found.now.edges.items found.now.notes.items) }
-    requires told { let q = searching_of quest.old.subject in
-        TellsOrders (telling_of q found.now.edges.items found.now.notes.items) }
-    requires node { node < length found.now.notes.items }
-    ensures adds { let q = searching_of quest.old.subject in
-        let t = telling_of q found.now.edges.items found.now.notes.items in
+    requires sound { IsSound (telling_at quest.old.subject search.now) }
+    requires told { TellsOrders (telling_at quest.old.subject search.now) }
+    requires node { node < length search.now.notes.items }
+    ensures adds { let t = telling_at quest.old.subject search.now in
         OnOk result (AreEndings t view.now node endings.old → AreEndings t view.now (node + 1) endings.new) }
+    ensures one { OnOk result (AddsOne endings.old.list.items endings.new.list.items) }
     ensures subject { quest.new.subject ≡ quest.old.subject }
     ensures stopped { IfErr result (IsStopped quest.old.subject) }
 {
-    let note = found.notes[node];
+    let note = search.notes()[node];
     if note.ends {
-        see(alloc, quest, view, found, node, endings)
+        see(alloc, quest, view, search, node, endings)
     } else {
         Ok(())
     }
-}
-
-/// All nodes where orders end are told, each with those that it is like.
-pub fn endings_of(
-    alloc: Global,
-    quest: &mut Quest,
-    view: &View<'_>,
-    found: &Found<Move, Note>,
-) -> Result<Endings, Status>
-    requires sound { let q = searching_of quest.old.subject in IsSound (telling_of q found.now.edges.items found.now.notes.items) }
-    requires told { let q = searching_of quest.old.subject in
-        TellsOrders (telling_of q found.now.edges.items found.now.notes.items) }
-    ensures all { let q = searching_of quest.old.subject in
-        let t = telling_of q found.now.edges.items found.now.notes.items in
-        IfOk result (AreEndings t view.now (length t.notes)) }
-    ensures subject { quest.new.subject ≡ quest.old.subject }
-    ensures stopped { IfErr result (IsStopped quest.old.subject) }
-{
-    let mut endings = Endings {
-        list: Vec::new(alloc),
-        looks: Vec::new(alloc),
-    };
-    for node in 0..found.notes.len() {
-        pass(alloc, quest, view, found, node, &mut endings)?;
-    }
-    Ok(endings)
 }
 
 /// How many nodes are like the ending at this place.

@@ -14,7 +14,7 @@ use event_text::event_file;
 use order_model::Move;
 use program_status::Status;
 use std::alloc::{AllocError, Global};
-use xk_base::{Event, Pid, Tid};
+use xk_base::{Event, Pid, ThreadId, Tid};
 
 /// The event of this number.
 fn event_at(once: &[Event], number: u32) -> Option<Event>
@@ -39,6 +39,17 @@ fn tick(steps: u32) -> Event
     Event::Tick(steps)
 }
 
+/// The events that play a slice.
+fn add_slice(events: &mut Vec<Event>, who: ThreadId, steps: u32) -> Result<(), AllocError>
+    ensures events { OnOk result (events.new.items
+        ≡ events.old.items ++ (Event.Pick who.pid who.tid ∷ Event.Tick steps ∷ [])) }
+    ensures askable { AreAskable events.old.items → OnOk result (AreAskable events.new.items) }
+{
+    events.push(pick(who.pid.0, who.tid.0))?;
+    events.push(tick(steps))?;
+    Ok(())
+}
+
 /// The events that play a move.
 fn add_move(events: &mut Vec<Event>, next: Move, once: &[Event]) -> Result<(), AllocError>
     ensures events { (asked : Asked) → asked.once ≡ once.now
@@ -46,11 +57,8 @@ fn add_move(events: &mut Vec<Event>, next: Move, once: &[Event]) -> Result<(), A
     ensures askable { AreAskable once.now → AreAskable events.old.items → OnOk result (AreAskable events.new.items) }
 {
     match next {
-        Move::Slice(who, steps) => {
-            events.push(pick(who.pid.0, who.tid.0))?;
-            events.push(tick(steps))?;
-            Ok(())
-        }
+        Move::Slice(who, steps) => add_slice(events, who, steps),
+        Move::Preempted(who, steps) => add_slice(events, who, steps),
         Move::Once(number) => match event_at(once, number) {
             Some(event) => {
                 events.push(event)?;
@@ -118,6 +126,7 @@ fn write_file<F: EventFiles>(
         → OnOk result (AreAskable (events_in asked ending.now.order.items)) }
     ensures unfiled { IfErr result (IsUnfiled (Rose (F.faults files.old) (F.faults files.new))) }
     ensures never_falls { F.faults files.old ≤ F.faults files.new }
+    ensures opened { F.unopened files.new ≡ F.unopened files.old }
 {
     let file = file_of(alloc, before, &ending.order, once)?;
     match files.write(folder, number, file.as_slice()) {
@@ -141,6 +150,7 @@ pub fn write_files<F: EventFiles>(
         → OnOk result (All (λ ending. AreAskable (events_in asked ending.order.items)) endings.now) }
     ensures unfiled { IfErr result (IsUnfiled (Rose (F.faults files.old) (F.faults files.new))) }
     ensures never_falls { F.faults files.old ≤ F.faults files.new }
+    ensures opened { F.unopened files.new ≡ F.unopened files.old }
 {
     for place in 0..endings.len() {
         let number = place as u64 + 1;

@@ -7,10 +7,16 @@ mod endings;
 mod event_files;
 mod failures;
 mod files;
+mod found_lines;
+mod halt;
 mod image;
+mod levels;
+mod limits;
 mod notes;
 mod outcome;
 mod run;
+mod search;
+mod sizes;
 mod view;
 mod watching;
 

@@ -1,7 +1,7 @@
 //! How the program ends.
 
-ghost use Rattle.std.specs.Prelude.{◌≡◌, IsSome};
-ghost use Rattle.order_search.specs.Faults.{IsFault, IsRunFault};
+ghost use Rattle.std.specs.Prelude.{◌≡◌};
+ghost use Rattle.order_search.specs.Faults.{IsRunFault};
 ghost use Rattle.graph_search.specs.Edges.{HasCause};
 ghost use Rattle.order_search.specs.declared.subject.Subject.{Subject};
 ghost use Rattle.xousorders.specs.Failures.{asks_failure, tells_failure};
@@ -40,14 +40,14 @@ impl Outcome {
     }
 }
 
-/// How the program ends where orders aren't searched on.
-pub fn stopped(fault: OrderFault) -> Status
-    ensures { (s : Subject) → IsFault s fault → (fault ≡ OrderFault.Timer → IsSome s.orders.bound) → IsStopped s result }
+/// How the program ends where an order isn't played for this fault.
+fn stopped(fault: OrderFault) -> Status
+    ensures { (s : Subject) → IsRunFault s fault → IsStopped s result }
 {
     match fault {
         OrderFault::Steps => Status::StepLimit(STEP_LIMIT),
-        // Orders with a bound don't end so.
-        OrderFault::Timer => Status::StepLimit(STEP_LIMIT),
+        // No order isn't played for this.
+        OrderFault::Timer => Status::NoMemory,
         OrderFault::Line(line) => Status::EventFault(line),
     }
 }

@@ -1,176 +1,69 @@
-//! A search is made and told.
+//! Orders are searched, and what was found is told.
 
 ghost use Rattle.std.specs.Option.{option_copied};
-ghost use Rattle.std.specs.Prelude.{◌≡◌, ◌<◌, ◌≤◌, ◌++◌, ℕ, true, IfErr, IfOk, IsSome, OnOk, length};
+ghost use Rattle.std.specs.Prelude.{◌≡◌, ◌≤◌, IfErr, IfOk, IsSome, OnErr, OnOk, length};
 ghost use Rattle.event_text.specs.Spelling.{AreAskable};
 ghost use Rattle.order_search.specs.Faults.{IsBegun};
-ghost use Rattle.order_search.specs.Found.{FindsAllOrders, FindsNodes, finding_of};
-ghost use Rattle.order_search.specs.declared.subject.Subject.{Subject};
 ghost use Rattle.xk_base.specs.Outside.{Rose};
 ghost use Rattle.xk_ports.specs.Told.{Grows};
 ghost use Rattle.xousorders.specs.Asked.{IsAsked, Stops, asking_of};
-ghost use Rattle.xousorders.specs.Calls.{AreSpelled, Ends, SaysSo, SaysSoSoon, TellsSearch, command_in, files_in, is_enough as is_enough_of, outcome_in, report_lines, report_of, searched_line, sides_of};
+ghost use Rattle.xousorders.specs.Calls.{Ends, command_in, limits_in, most_preemptions as most_of, sides_of, strategy_for};
+ghost use Rattle.xousorders.specs.Halts.{outcome_for};
 ghost use Rattle.xousorders.specs.Outcomes.{IsUnfiled};
-ghost use Rattle.xousorders.specs.Searched.{IsSearched, IsStopped};
+ghost use Rattle.xousorders.specs.Reports.{AreSpelled, files_in, report_of};
 
-use crate::answer::{put_differ, put_endings, put_extent, put_failures, slices_tried};
-use crate::endings::{Endings, endings_of};
 use crate::event_files::EventFiles;
 use crate::files::write_files;
+use crate::halt::Halt;
 use crate::image::{read_events, read_image};
-use crate::outcome::{Outcome, ended, is_whole, stopped, tells, unplayed};
+use crate::levels::search_levels;
+use crate::limits::Limits;
+use crate::outcome::{Outcome, ended, unplayed};
+use crate::search::Told;
 use crate::view::View;
-use graph_search::{Found, Watch};
-use order_model::{Failing, Move, Note, Orders};
-use order_search::{OrderFault, Quest, Subject, orders_are_replayed, search_orders};
+use crate::watching::Watch;
+use graph_search::Strategy;
+use order_model::Orders;
+use order_search::{Quest, Subject, orders_are_replayed};
 use order_words::Words;
 use program_status::{Planned, Status, plan_bytes};
-use std::alloc::{AllocError, Global};
-use xk_base::Event;
-use xk_base::limits::STEP_LIMIT;
-use xk_ports::{Host, Sink, put_all};
+use std::alloc::Global;
+use xk_base::{Event, Failed};
+use xk_ports::{Host, Sink};
 
-/// How many nodes the first search keeps at most that stops at a failure.
-const FIRST_ROUND: usize = 1_000;
-
-/// The nodes that a search found, and the endings among them.
-#[derive(Drop)]
-struct Told {
-    found: Found<Move, Note>,
-    endings: Endings,
-}
-
-/// A search, what it found, its lines, and how the program ends where they are written.
-#[derive(Drop)]
-struct Answer {
-    quest: Quest,
-    told: Told,
-    text: Vec<u8>,
-    outcome: Outcome,
-}
-
-/// The search without a bound of steps, or with one where an order comes to a claim of the timer's interrupt.
-fn search_all<W: Watch>(
-    alloc: Global,
-    quest: &mut Quest,
-    states: usize,
-    steps: u32,
-    watch: &mut W,
-) -> Result<Found<Move, Note>, Status>
-    ensures nodes { IfOk result (λ found. FindsNodes states (finding_of quest.new.subject found)) }
-    ensures whole { IfOk result (λ found. FindsAllOrders ⟦<[u8; 32] as Ord>⟧.cmp (finding_of quest.new.subject found)) }
-    ensures subject { IsSearched steps quest.old.subject quest.new.subject }
-    ensures stopped { IfErr result (IsStopped quest.new.subject) }
+/// Which node a search follows next, if so many preemptions are asked for.
+fn strategy_of(preemptions: Option<u32>) -> Strategy
+    ensures { result ≡ strategy_for preemptions }
 {
-    match search_orders(alloc, quest, states, watch) {
-        Ok(found) => return Ok(found),
-        Err(OrderFault::Timer) => {}
-        Err(OrderFault::Steps) => return Err(Status::StepLimit(STEP_LIMIT)),
-        Err(OrderFault::Line(line)) => return Err(Status::EventFault(line)),
-    }
-    quest.count_steps(steps);
-    match search_orders(alloc, quest, states, watch) {
-        Ok(found) => Ok(found),
-        Err(fault) => Err(stopped(fault)),
+    match preemptions {
+        None => Strategy::Breadth,
+        Some(_) => Strategy::Depth,
     }
 }
 
-/// The search, and the endings that it found.
-fn search_endings<W: Watch>(
-    alloc: Global,
-    quest: &mut Quest,
-    view: &View<'_>,
-    states: usize,
-    steps: u32,
-    watch: &mut W,
-) -> Result<Told, Status>
-    ensures so { IfOk result (λ told. SaysSo ⟦<[u8; 32] as Ord>⟧.cmp states view.now (report_of quest.new.subject told)) }
-    ensures subject { IsSearched steps quest.old.subject quest.new.subject }
-    ensures stopped { IfErr result (IsStopped quest.new.subject) }
+/// How many preemptions an order has at most.
+fn most_preemptions(preemptions: Option<u32>) -> u32
+    ensures { result ≡ most_of preemptions }
 {
-    let found = search_all(alloc, quest, states, steps, watch)?;
-    let endings = endings_of(alloc, quest, view, &found)?;
-    Ok(Told { found, endings })
+    preemptions.unwrap_or(0)
 }
 
-/// How many nodes a search keeps at most at first.
-fn first_limit(first: bool, states: usize) -> usize
-    ensures some { result < states → 0 < result }
-    ensures asked { result < states → first ≡ true }
+/// Within which limits the words ask to search.
+fn limits_of(words: &Words<'_>) -> Limits
+    ensures { result ≡ limits_in words.now }
 {
-    if first {
-        FIRST_ROUND.min(states)
-    } else {
-        states
+    Limits {
+        strategy: strategy_of(words.preemptions),
+        states: words.states as usize,
+        steps: words.steps,
+        preemptions: most_preemptions(words.preemptions),
+        first: words.first,
+        seconds: words.seconds,
     }
 }
 
-/// Whether a failure is told, or the search is whole.
-fn is_enough(fails: &[Failing<'_>], differ: bool, told: &Told) -> bool
-    ensures { (s : Subject) → result ≡ is_enough_of fails.now differ (report_of s told.now) }
-{
-    tells(fails, differ, &told.endings.list) || is_whole(told.found.extent)
-}
-
-/// The search, and the endings that it found. One that stops at a failure is made with ever more nodes, until one is told or it is whole.
-fn search_rounds<W: Watch>(
-    alloc: Global,
-    quest: &mut Quest,
-    view: &View<'_>,
-    differ: bool,
-    first: bool,
-    states: usize,
-    steps: u32,
-    watch: &mut W,
-) -> Result<Told, Status>
-    ensures so { IfOk result (λ told. SaysSoSoon ⟦<[u8; 32] as Ord>⟧.cmp first states view.now differ (report_of quest.new.subject told)) }
-    ensures subject { IsSearched steps quest.old.subject quest.new.subject }
-    ensures stopped { IfErr result (IsStopped quest.new.subject) }
-{
-    let mut most = first_limit(first, states);
-    while most < states {
-        let told = search_endings(alloc, quest, view, most, steps, watch)?;
-        if is_enough(&view.fails, differ, &told) {
-            return Ok(told);
-        }
-        most = most.saturating_mul(2).min(states);
-    }
-    search_endings(alloc, quest, view, states, steps, watch)
-}
-
-/// The line of how much was searched.
-fn put_searched(
-    text: &mut Vec<u8>,
-    quest: &Quest,
-    found: &Found<Move, Note>,
-) -> Result<(), AllocError>
-    ensures { let finding = finding_of quest.now.subject found.now in
-        OnOk result (text.new.items ≡ text.old.items ++ searched_line finding) }
-{
-    let states = found.edges.len() as u64 + 1;
-    let slices = slices_tried(&found.notes);
-    put_extent(text, states, slices, found.extent, quest.bound())
-}
-
-/// The lines of what was found.
-fn lines_of(
-    alloc: Global,
-    quest: &Quest,
-    fails: &[Failing<'_>],
-    differ: bool,
-    told: &Told,
-) -> Result<Vec<u8>, AllocError>
-    ensures { IfOk result (λ text. text.items ≡ report_lines fails.now differ (report_of quest.now.subject told.now)) }
-{
-    let mut text = Vec::new(alloc);
-    put_searched(&mut text, quest, &told.found)?;
-    put_endings(&mut text, &told.endings)?;
-    put_failures(&mut text, fails, &told.endings.list)?;
-    put_differ(&mut text, differ, told.endings.list.len())?;
-    Ok(text)
-}
-
-/// The search that is asked for, without a bound of steps. The events before are played once, so that it is known that they can be.
+/// The search that is asked for, without preemptions and without a bound of steps. The events before are played once, so that it is known
+/// that they can be.
 fn quest_of<H: Host>(
     alloc: Global,
     host: &mut H,
@@ -185,7 +78,7 @@ fn quest_of<H: Host>(
         IfOk result (λ quest. IsAsked (H.file host.old) asking quest.subject) }
     ensures begun { IfOk result (λ quest. IsBegun quest.subject) }
     ensures stops { let asking = asking_of image.now (option_copied before.entry) quantum once.items exits in
-        let rose = Rose (H.faults host.old) (H.faults host.new) in (steps : ℕ) → IfErr result (Stops (H.file host.old) asking steps rose) }
+        let rose = Rose (H.faults host.old) (H.faults host.new) in IfErr result (Stops (H.file host.old) asking rose ⊥) }
 {
     let file = read_image(alloc, host, image)?;
     let planned = plan_bytes(alloc, &file, None)?;
@@ -196,6 +89,7 @@ fn quest_of<H: Host>(
         bound: None,
         once,
         exits,
+        preemptions: 0,
     };
     let subject = Subject {
         plan,
@@ -213,56 +107,17 @@ fn quest_of<H: Host>(
     }
 }
 
-/// The search that the words ask for, with what it found in lines.
-fn search_words<H: Host, W: Watch>(
-    alloc: Global,
-    host: &mut H,
-    words: Words<'_>,
-    watch: &mut W,
-) -> Result<Answer, Status>
-    requires { length words.once.items ≤ 255 }
-    ensures told { let command = command_in words.entry in IfOk result (λ answer.
-        TellsSearch ⟦<[u8; 32] as Ord>⟧.cmp (H.file host.old) command answer.text.items (report_of answer.quest.subject answer.told)) }
-    ensures outcome { let command = command_in words.entry in IfOk result (λ answer.
-        answer.outcome ≡ outcome_in command (report_of answer.quest.subject answer.told)) }
-    ensures stops { let rose = Rose (H.faults host.old) (H.faults host.new) in
-        let command = command_in words.entry in
-        IfErr result (Stops (H.file host.old) command.asking command.steps rose) }
+/// Opens the folder for event files, if there is one.
+fn open_folder<F: EventFiles>(files: &mut F, folder: Option<&str>) -> Result<(), Failed>
+    ensures written { F.written files.new ≡ F.written files.old }
+    ensures opened { OnOk result (F.unopened files.new ≡ F.unopened files.old) }
+    ensures cause { OnErr result (Rose (F.unopened files.old) (F.unopened files.new)) }
+    ensures faults { F.faults files.new ≡ F.faults files.old }
 {
-    let Words {
-        image,
-        quantum,
-        steps,
-        states,
-        preemptions: _,
-        seconds: _,
-        before,
-        once,
-        folder: _,
-        see,
-        hex,
-        fails,
-        differ,
-        first,
-    } = words;
-    let view = View {
-        sights: see,
-        hex,
-        fails,
-    };
-    let mut quest = quest_of(alloc, host, image, before, quantum, once, see.exits)?;
-    let states = states as usize;
-    let told = search_rounds(
-        alloc, &mut quest, &view, differ, first, states, steps, watch,
-    )?;
-    let text = lines_of(alloc, &quest, &view.fails, differ, &told)?;
-    let outcome = ended(&view.fails, differ, told.found.extent, &told.endings.list);
-    Ok(Answer {
-        quest,
-        told,
-        text,
-        outcome,
-    })
+    match folder {
+        None => Ok(()),
+        Some(folder) => files.open(folder),
+    }
 }
 
 /// Writes the order to each ending as an event file into the folder, if there is one.
@@ -270,24 +125,37 @@ fn write_orders<F: EventFiles>(
     alloc: Global,
     files: &mut F,
     folder: Option<&str>,
-    answer: &Answer,
+    quest: &Quest,
+    told: &Told,
 ) -> Result<(), Status>
-    ensures filed { let report = report_of answer.now.quest.subject answer.now.told in
+    ensures filed { let report = report_of quest.now.subject told.now in
         OnOk result (Grows (F.written files.old) (F.written files.new) (files_in (option_copied folder.entry) report)) }
-    ensures spelled { let report = report_of answer.now.quest.subject answer.now.told in
-        AreAskable answer.now.quest.subject.orders.once.items → OnOk result (IsSome (option_copied folder.entry) → AreSpelled report) }
+    ensures spelled { let report = report_of quest.now.subject told.now in
+        AreAskable quest.now.subject.orders.once.items → OnOk result (IsSome (option_copied folder.entry) → AreSpelled report) }
     ensures unfiled { IfErr result (IsUnfiled (Rose (F.faults files.old) (F.faults files.new))) }
+    ensures opened { F.unopened files.new ≡ F.unopened files.old }
 {
     let Some(folder) = folder else {
         return Ok(());
     };
-    let lines = answer.quest.before();
-    let endings = &answer.told.endings.list;
-    write_files(alloc, files, folder, lines, answer.quest.once(), endings)
+    let endings = &told.endings.list;
+    write_files(alloc, files, folder, quest.before(), quest.once(), endings)
 }
 
-/// Searches what the words ask for, and tells what was found. It ends as `Ends` says: exactly the text of a search of that image, those
-/// events and those orders is written, or nothing but where the sink fails.
+/// How the program ends if its searches end untold.
+fn halted(halt: Halt) -> Outcome
+    ensures { result ≡ outcome_for halt }
+{
+    match halt {
+        Halt::Stopped(status) => Outcome::Ended(status),
+        // A search with a bound of steps doesn't end so.
+        Halt::Timer => Outcome::Ended(Status::NoMemory),
+        Halt::Unwritten => Outcome::Ended(Status::WriteFault),
+    }
+}
+
+/// Searches what the words ask for, and tells what was found. It ends as `Ends` says: the lines of endings as they are found and of reports
+/// of searches of that image, those events and those orders are written, or only the first of these.
 pub fn run<H: Host, F: EventFiles, K: Sink, W: Watch>(
     alloc: Global,
     words: Words<'_>,
@@ -301,18 +169,49 @@ pub fn run<H: Host, F: EventFiles, K: Sink, W: Watch>(
     ensures { let sides = sides_of H.Host K.Sink F.EventFiles host.old host.new out.old out.new files.old files.new in
         Ends ⟦<[u8; 32] as Ord>⟧.cmp (command_in words.entry) sides result }
 {
-    let folder = words.folder;
-    let answer = match search_words(alloc, host, words, watch) {
-        Ok(answer) => answer,
+    let limits = limits_of(&words);
+    let Words {
+        image,
+        quantum,
+        steps: _,
+        states: _,
+        preemptions: _,
+        seconds: _,
+        before,
+        once,
+        folder,
+        see,
+        hex,
+        fails,
+        differ,
+        first: _,
+    } = words;
+    let view = View {
+        sights: see,
+        hex,
+        fails,
+        differ,
+    };
+    let mut quest = match quest_of(alloc, host, image, before, quantum, once, see.exits) {
+        Ok(quest) => quest,
         Err(status) => return Outcome::Ended(status),
     };
-    orders_are_replayed();
-    match write_orders(alloc, files, folder, &answer) {
+    match open_folder(files, folder) {
         Ok(()) => {}
-        Err(status) => return Outcome::Ended(status),
+        Err(_) => return Outcome::Ended(Status::WriteFault),
     }
-    match put_all(out, answer.text.as_slice()) {
-        Ok(()) => answer.outcome,
-        Err(_) => Outcome::Ended(Status::WriteFault),
+    let told = match search_levels(alloc, &mut quest, &view, &limits, out, watch) {
+        Ok(told) => told,
+        Err(halt) => return halted(halt),
+    };
+    orders_are_replayed();
+    match write_orders(alloc, files, folder, &quest, &told) {
+        Ok(()) => ended(
+            &view.fails,
+            view.differ,
+            told.found.extent,
+            &told.endings.list,
+        ),
+        Err(status) => Outcome::Ended(status),
     }
 }

@@ -10,4 +10,6 @@ pub struct View<'a> {
     pub hex: bool,
     /// What makes an ending a failure; the first that it fails of is told.
     pub fails: Vec<Failing<'a>>,
+    /// Whether more than one ending is a failure.
+    pub differ: bool,
 }

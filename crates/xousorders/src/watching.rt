@@ -1,9 +1,8 @@
-//! Who waits for a search is told how far it has come.
+//! Who waits for a search is told how far it has come, and says if its time is over.
 
 ghost use Rattle.std.specs.Prelude.{◌≤◌, ◌+◌, length};
 ghost use Rattle.arrayvec.specs.ArrayVec.{array_vec_len};
 
-use graph_search::{Progress, Watch};
 use host_io::text::{Line, put, put_number};
 use std::rt::Clock;
 use std::time::Instant;
@@ -12,13 +11,32 @@ use xk_ports::{Sink, put_all};
 /// How many seconds nothing is told.
 const PAUSE: u64 = 1;
 
-/// Tells about once a second how far a search has come.
+/// How far a search has come.
+#[derive(Clone, Copy, Debug)]
+pub struct Progress {
+    /// How many nodes it found.
+    pub nodes: usize,
+    /// How many of them it followed.
+    pub followed: usize,
+}
+
+/// Who waits for a search. Nothing is promised of time.
+pub trait Watch {
+    /// The search has come so far.
+    fn see(&mut self, progress: Progress);
+
+    /// Whether so many seconds are over.
+    fn is_over(&mut self, seconds: u32) -> bool;
+}
+
+/// Tells about once a second how far a search has come, and counts its time.
 #[derive(Drop)]
 pub struct Teller<'a, C: Clock, N: Sink> {
     clock: &'a C,
     notes: &'a mut N,
     /// Whether anybody looks.
     is_seen: bool,
+    begun: Option<Instant>,
     last: Option<Instant>,
 }
 
@@ -35,20 +53,21 @@ fn put_count(line: &mut Line, text: &[u8], count: usize)
 fn line_of(progress: Progress) -> Line {
     let mut line = Line::new();
     put_count(&mut line, b"states ", progress.nodes);
-    put_count(&mut line, b" followed ", progress.expanded);
-    let frontier = progress.nodes.saturating_sub(progress.expanded);
+    put_count(&mut line, b" followed ", progress.followed);
+    let frontier = progress.nodes.saturating_sub(progress.followed);
     put_count(&mut line, b" frontier ", frontier);
     put(&mut line, b"\n");
     line
 }
 
 impl<'a, C: Clock, N: Sink> Teller<'a, C, N> {
-    /// Tells on the notes, where they are seen.
+    /// Tells on the notes, where they are seen. The time begins now.
     pub fn new(clock: &'a C, notes: &'a mut N, is_seen: bool) -> Teller<'a, C, N> {
         Teller {
             clock,
             notes,
             is_seen,
+            begun: Instant::now(clock).ok(),
             last: None,
         }
     }
@@ -76,6 +95,13 @@ impl<'a, C: Clock, N: Sink> Watch for Teller<'a, C, N> {
     fn see(&mut self, progress: Progress) {
         if self.is_seen && self.is_due() {
             let _ = put_all(self.notes, line_of(progress).as_slice());
+        }
+    }
+
+    fn is_over(&mut self, seconds: u32) -> bool {
+        match (self.begun, Instant::now(self.clock)) {
+            (Some(begun), Ok(now)) => now.duration_since(begun).as_secs() >= u64::from(seconds),
+            (None, _) | (_, Err(_)) => false,
         }
     }
 }

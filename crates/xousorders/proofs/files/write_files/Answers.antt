@@ -1,4 +1,4 @@
-use Rattle.std.proofs.Common.{◌≡◌, ◌<◌, All, List, length, arith, refl, subst, take_all}
+use Rattle.std.proofs.Common.{◌≡◌, ◌∙◌, ◌<◌, All, List, length, arith, refl, subst, take_all}
 use Rattle.std.proofs.lemmas.List.Elements.{All-more, All-nil}
 use Rattle.std.proofs.lemmas.Option.{slice_get_read}
 use Rattle.event_text.specs.Spelling.{AreAskable}
@@ -8,7 +8,8 @@ use Rattle.xk_ports.specs.Told.{Grows}
 use Rattle.xousorders.specs.Files.{files_below}
 use Rattle.xousorders.specs.Outcomes.{IsUnfiled}
 use Rattle.xousorders.specs.declared.endings.Ending.{Ending}
-use Rattle.xousorders.proofs.CallLemmas.{exit_says, unfiled_later}
+use Rattle.xousorders.proofs.CallLemmas.{unfiled_later}
+use Rattle.xousorders.proofs.ResultLemmas.{exit_says}
 use Rattle.xousorders.proofs.FileLemmas.{file_more, no_files}
 use Rattle.xousorders.proofs.files.write_files.Goals as goal
 
@@ -17,6 +18,7 @@ loop-place-init g c = record {
   filed = λ asked same. no_files c.args.folder.now asked c.args.before.now c.args.endings.now (g.F.EventFiles.written c.args.files.now);
   spelled = λ asked same once. All-nil (λ (e : Ending). AreAskable (events_of asked e.order.items));
   never_falls = omega arith;
+  opened = refl;
 }
 
 pub loop-place-preserved : goal.loop-place-preserved
@@ -34,6 +36,7 @@ loop-place-preserved g c =
           (subst (λ (e : Ending). AreAskable (events_of asked e.order.items)) c.index-endings-place.is
           (c.in_ok-write_file.ensures.spelled asked same once));
       never_falls = (let a = c.loop-place.invariant.never_falls in let b = c.write_file.ensures.never_falls in omega (arith, a, b));
+      opened = c.write_file.ensures.opened ∙ c.loop-place.invariant.opened;
     }
 
 pub returns-in_err-write_file-clause-unfiled : goal.returns-in_err-write_file-clause-unfiled
@@ -52,3 +55,6 @@ pub returns-clause-spelled : goal.returns-clause-spelled
 returns-clause-spelled g c asked same once =
     subst (λ (es : List Ending). All (λ (e : Ending). AreAskable (events_of asked e.order.items)) es)
     (take_all c.loop-place.place c.args.endings.now (omega arith)) (c.loop-place.invariant.spelled asked same once)
+
+pub returns-in_err-write_file-clause-opened : goal.returns-in_err-write_file-clause-opened
+returns-in_err-write_file-clause-opened g c = c.write_file.ensures.opened ∙ c.loop-place.invariant.opened

@@ -13,4 +13,5 @@ invariant-loop-place g l = record {
   spelled : (asked : Asked) → asked.once ≡ l.once → AreAskable l.once
       → All (λ ending. AreAskable (events_of asked ending.order.items)) (take l.place l.endings);
   never_falls : g.F.EventFiles.faults l.fn.files ≤ g.F.EventFiles.faults l.files;
+  opened : g.F.EventFiles.unopened l.files ≡ g.F.EventFiles.unopened l.fn.files;
 }
