@@ -153,7 +153,7 @@ def wrong_numbers() -> Iterator[str]:
     page = "docs/definitions.md"
     rows = {name: int(number) for name, number in listed(page, r"\b([A-Z]\w+) \((\d+)\)")}
     yield from differing(page, rows, by_name, False)
-    path = "crates/case_files/src/acts.rt"
+    path = "crates/run_cases/src/acts.rt"
     acts = {name: int(number) for name, number in listed(path, r'"(\w+)" => Some\((\d+)\)')}
     yield from differing(path, acts, by_name, False)
     path = "crates/syscall_codec/src/numbers.rt"

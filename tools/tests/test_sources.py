@@ -13,7 +13,7 @@ LISTS = (
     ("docs/calls.md", "JoinThread (36)", "JoinThread (37)", "JoinThread is 36, not 37"),
     ("docs/calls.md", "JoinThread (36)", "JoinThread", "JoinThread (36) is missing"),
     ("docs/definitions.md", "JoinThread (36)", "JoinThread (37)", "JoinThread is 36, not 37"),
-    ("crates/case_files/src/acts.rt", '"JoinThread" => Some(36)', '"JoinThread" => Some(37)', "JoinThread is 36, not 37"),
+    ("crates/run_cases/src/acts.rt", '"JoinThread" => Some(36)', '"JoinThread" => Some(37)', "JoinThread is 36, not 37"),
     ("crates/syscall_codec/src/numbers.rt", "JOIN_THREAD: u32 = 36", "JOIN_THREAD: u32 = 37", "JOIN_THREAD is 36, not 37"),
     ("examples/kit/rust/xous/src/call.rs", "CONNECT: u32 = 17", "CONNECT: u32 = 18", "CONNECT is 17, not 18"),
 )

@@ -2,12 +2,30 @@
 //! wanted. `docs/cases.md` has the form of the files.
 #![tactic(auto)]
 
+mod acts;
+mod book;
+mod case;
+mod draft;
+mod judging;
+mod lines;
+mod literals;
+mod machines;
+mod parts;
 mod playing;
+mod rows;
+mod steps;
 mod sweeping;
 mod telling;
+mod transcripts;
+mod wrong;
 
-use anyhow::{Context, Error, Result, anyhow, ensure};
-use case_files::{Block, Book, Difference, Left, are_same, blocks, case_of, define, rows_of};
+use anyhow::{Context, Result, anyhow, ensure};
+use book::Book;
+use draft::case_of;
+use judging::Left;
+use lines::{Block, blocks};
+use parts::{are_same, define};
+use rows::rows_of;
 use std::alloc::Global;
 use std::fs;
 use std::rt::Files;
@@ -48,11 +66,6 @@ const FILES: [&str; 30] = [
     "sweeps.cases",
 ];
 
-/// A case isn't as wanted.
-fn unwanted(line: u32, name: &str, difference: Difference) -> Error {
-    anyhow!("line {line}: {name}: not as wanted: {difference}")
-}
-
 /// Plays a case, and keeps its output where the case says so.
 fn play_row<R: Print>(
     rt: &R,
@@ -65,7 +78,8 @@ fn play_row<R: Print>(
     let Played { left, difference } = play_case(alloc, &case)?;
     if let Some(difference) = difference {
         tell_difference(rt, &case, &left, row)?;
-        return Err(unwanted(block.head.number, block.head.text, difference));
+        let (line, name) = (block.head.number, block.head.text);
+        return Err(anyhow!("line {line}: {name}: not as wanted: {difference}"));
     }
     if let Some(name) = &case.keep {
         let Left {
@@ -74,7 +88,7 @@ fn play_row<R: Print>(
             out,
             notes: _,
         } = left;
-        book.put_text(alloc, name.as_str(), out)?;
+        book.texts.put(alloc, name.as_str(), out)?;
     }
     Ok(())
 }

@@ -1,10 +1,12 @@
 //! Cases that are called once, and those where each call of the output or of the store fails in turn.
 
 ghost use Rattle.std.specs.Prelude.{IfOk, IsNone};
-ghost use Rattle.case_files.specs.Judging.{IsAsWanted};
+ghost use Rattle.run_cases.specs.Judging.{IsAsWanted};
 
+use crate::case::{Case, Outside, Sweep};
+use crate::judging::{Difference, Left, fault_difference, lines_told};
 use crate::playing::play_once;
-use case_files::{Case, Difference, Left, Outside, Sweep, Wrong, fault_difference, lines_told};
+use crate::wrong::Wrong;
 use std::alloc::Global;
 
 /// More calls of the output or of the store than a run makes.

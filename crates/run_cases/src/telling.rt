@@ -1,6 +1,7 @@
 //! Both texts of a case that isn't as wanted.
 
-use case_files::{Case, Left};
+use crate::case::Case;
+use crate::judging::Left;
 use std::alloc::Global;
 use std::io;
 use std::io::Write;

@@ -13,6 +13,9 @@ const STATE_CHECK: usize = 12;
 
 const STATE_PARTS: usize = 16;
 
+/// Where the size of RAM stands in an image.
+const IMAGE_RAM: usize = 20;
+
 /// So many bytes that are all the same.
 fn push_same(bytes: &mut Vec<u8>, count: usize, byte: u8) -> Result<(), Wrong> {
     let page = [byte; 4096];
@@ -34,7 +37,7 @@ fn push_filled(bytes: &mut Vec<u8>, text: &str) -> Result<(), Wrong> {
 fn push_part(bytes: &mut Vec<u8>, book: &Book, text: &str) -> Result<(), Wrong> {
     let (name, rest) = next_word(text);
     let (from, to) = next_word(rest);
-    let part = book.text(name)?.get(place(from)?..place(to)?);
+    let part = book.texts.get(name)?.get(place(from)?..place(to)?);
     bytes.extend_from_slice(part.ok_or(Wrong::Place)?)?;
     Ok(())
 }
@@ -56,7 +59,7 @@ fn line_start(bytes: &[u8], lines: usize) -> Option<usize> {
 /// The first lines of a byte string, or those behind them.
 fn push_lines(bytes: &mut Vec<u8>, book: &Book, text: &str, are_first: bool) -> Result<(), Wrong> {
     let (count, name) = next_word(text);
-    let all = book.text(name)?;
+    let all = book.texts.get(name)?.as_slice();
     let start = line_start(all, place(count)?).ok_or(Wrong::Place)?;
     let part = if are_first {
         all.get(..start)
@@ -111,8 +114,8 @@ fn append(alloc: Global, bytes: &mut Vec<u8>, book: &Book, text: &str) -> Result
         "hex" => push_hex(alloc, bytes, rest)?,
         "words" => push_words(bytes, numbers(alloc, rest)?.as_slice())?,
         "fill" => push_filled(bytes, rest)?,
-        "code" => push_words(bytes, book.program(rest)?)?,
-        "copy" => bytes.extend_from_slice(book.text(rest)?)?,
+        "code" => push_words(bytes, book.programs.get(rest)?.as_slice())?,
+        "copy" => bytes.extend_from_slice(book.texts.get(rest)?.as_slice())?,
         "part" => push_part(bytes, book, rest)?,
         "first-lines" => push_lines(bytes, book, rest, true)?,
         "lines-behind" => push_lines(bytes, book, rest, false)?,
@@ -181,12 +184,6 @@ fn put_state_check(bytes: &mut [u8]) -> Result<(), Wrong> {
     put_word(bytes, STATE_CHECK, check)
 }
 
-/// The image gets a RAM of so many bytes.
-fn put_ram(bytes: &mut [u8], text: &str) -> Result<(), Wrong> {
-    put_word(bytes, 20, number(text)?)?;
-    put_check(bytes, 0)
-}
-
 /// Does a step.
 pub fn do_step(alloc: Global, bytes: &mut Vec<u8>, book: &Book, text: &str) -> Result<(), Wrong> {
     if append(alloc, bytes, book, text)? {
@@ -198,7 +195,10 @@ pub fn do_step(alloc: Global, bytes: &mut Vec<u8>, book: &Book, text: &str) -> R
         "patch" => patch(alloc, bytes.as_mut_slice(), rest),
         "flip" => flip(bytes.as_mut_slice(), rest),
         "cut" => cut(bytes, rest),
-        "ram" => put_ram(bytes.as_mut_slice(), rest),
+        "ram" => {
+            put_word(bytes.as_mut_slice(), IMAGE_RAM, number(rest)?)?;
+            put_check(bytes.as_mut_slice(), 0)
+        }
         "checked" => put_check(bytes.as_mut_slice(), place(rest)?),
         "checked-state" => put_state_check(bytes.as_mut_slice()),
         _ => Err(Wrong::Keyword),

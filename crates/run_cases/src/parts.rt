@@ -50,19 +50,19 @@ pub fn define(alloc: Global, book: &mut Book, block: &Block<'_>) -> Result<(), B
     let entered = match kind {
         "program" => {
             let words = program_of(alloc, block)?;
-            book.put_program(alloc, name, words)
+            book.programs.put(alloc, name, words)
         }
         "bytes" => {
             let bytes = bytes_of(alloc, book, block)?;
-            book.put_text(alloc, name, bytes)
+            book.texts.put(alloc, name, bytes)
         }
         "lines" => {
             let bytes = transcript_of(alloc, block)?;
-            book.put_text(alloc, name, bytes)
+            book.texts.put(alloc, name, bytes)
         }
         "rows" => {
             let rows = table_of(alloc, block)?;
-            book.put_rows(alloc, name, rows)
+            book.rows.put(alloc, name, rows)
         }
         _ => Err(Wrong::Keyword),
     };
@@ -74,7 +74,7 @@ pub fn are_same(book: &Book, block: &Block<'_>) -> Result<bool, BadLine> {
     let (_, names) = next_word(block.head.text);
     let (one, other) = next_word(names);
     let number = block.head.number;
-    let one = book.program(one).map_err(|wrong| wrong.at(number))?;
-    let other = book.program(other).map_err(|wrong| wrong.at(number))?;
-    Ok(one == other)
+    let one = book.programs.get(one).map_err(|wrong| wrong.at(number))?;
+    let other = book.programs.get(other).map_err(|wrong| wrong.at(number))?;
+    Ok(one.as_slice() == other.as_slice())
 }

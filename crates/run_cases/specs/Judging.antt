@@ -2,10 +2,10 @@
 
 use Rattle.std.specs.Prelude.{◌≡◌, ℕ, List, [], IsTrue, nat_eq, if◌then◌else◌}
 use Rattle.std.specs.List.{ends_with}
-use Rattle.case_files.specs.declared.judging.Left.{Left}
-use Rattle.case_files.specs.declared.case.Wanted.{Wanted}
-use Rattle.case_files.specs.declared.case.WantedOut.{WantedOut}
-use Rattle.case_files.specs.declared.case.WantedOut.TheVariants.{Any, Last, Whole}
+use Rattle.run_cases.specs.declared.judging.Left.{Left}
+use Rattle.run_cases.specs.declared.case.Wanted.{Wanted}
+use Rattle.run_cases.specs.declared.case.WantedOut.{WantedOut}
+use Rattle.run_cases.specs.declared.case.WantedOut.TheVariants.{Any, Last, Whole}
 
 -- The output is just the bytes that are wanted, or it ends with them, or nothing is said of it.
 abbrev pub IsOutWanted : WantedOut → List ℕ → Type 0

@@ -1,7 +1,7 @@
 //! Whether what a run left is as wanted.
 
 ghost use Rattle.std.specs.Prelude.{IsNone, IsTrue};
-ghost use Rattle.case_files.specs.Judging.{IsAsWanted, IsOutWanted};
+ghost use Rattle.run_cases.specs.Judging.{IsAsWanted, IsOutWanted};
 
 use crate::case::{Wanted, WantedOut};
 use thiserror::Error;

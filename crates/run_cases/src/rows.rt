@@ -20,7 +20,7 @@ fn push_rows(alloc: Global, rows: &mut Vec<String>, book: &Book, text: &str) -> 
     match word {
         "row" => rows.push(String::from_str(alloc, rest)?)?,
         "rows" => {
-            for row in book.rows(rest)? {
+            for row in book.rows.get(rest)? {
                 rows.push(String::from_str(alloc, row.as_str())?)?;
             }
         }

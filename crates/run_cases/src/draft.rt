@@ -106,7 +106,7 @@ fn read_file(
     match word {
         "file" => begin_file(alloc, draft, rest, Vec::new(alloc))?,
         "image" => {
-            let bytes = book.text(rest)?.to_vec(alloc)?;
+            let bytes = book.texts.get(rest)?.as_slice().to_vec(alloc)?;
             begin_file(alloc, draft, "i", bytes)?;
         }
         "machine" => {
@@ -137,15 +137,6 @@ fn read_failing(outside: &mut Outside, text: &str) -> Result<(), Wrong> {
     Ok(())
 }
 
-/// The lines that stand where a call of the store fails, and the number that the last such call is above.
-fn read_store_sweep(text: &str) -> Result<Sweep, Wrong> {
-    let (lines, above) = next_word(text);
-    Ok(Sweep::EachStoreCall {
-        lines: place(lines)?,
-        above: u64::from(number(above)?),
-    })
-}
-
 /// How the program is called.
 fn read_call(alloc: Global, case: &mut Case, word: &str, rest: &str) -> Result<bool, Wrong> {
     match word {
@@ -158,19 +149,17 @@ fn read_call(alloc: Global, case: &mut Case, word: &str, rest: &str) -> Result<b
         "pieces" => case.outside.piece = place(rest)?,
         "fails" => read_failing(&mut case.outside, rest)?,
         "each-write-fails" => case.sweep = Sweep::EachWrite,
-        "each-store-call-fails" => case.sweep = read_store_sweep(rest)?,
+        "each-store-call-fails" => {
+            let (lines, above) = next_word(rest);
+            case.sweep = Sweep::EachStoreCall {
+                lines: place(lines)?,
+                above: u64::from(number(above)?),
+            };
+        }
         "keep" => case.keep = Some(String::from_str(alloc, rest)?),
         _ => return Ok(false),
     }
     Ok(true)
-}
-
-/// How often a text stands in the output.
-fn read_count(alloc: Global, wanted: &mut Wanted, text: &str) -> Result<(), Wrong> {
-    let (count, text) = next_word(text);
-    let part = quoted(alloc, text)?;
-    wanted.counts.push((place(count)?, part))?;
-    Ok(())
 }
 
 /// What the case wants.
@@ -186,7 +175,11 @@ fn read_wanted(alloc: Global, wanted: &mut Wanted, word: &str, rest: &str) -> Re
         }
         "no-notes" => wanted.is_noted = false,
         "length" => wanted.length = Some(place(rest)?),
-        "has" => read_count(alloc, wanted, rest)?,
+        "has" => {
+            let (count, text) = next_word(rest);
+            let part = quoted(alloc, text)?;
+            wanted.counts.push((place(count)?, part))?;
+        }
         _ => return Ok(false),
     }
     Ok(true)

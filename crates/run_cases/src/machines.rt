@@ -30,7 +30,7 @@ fn joined(alloc: Global, book: &Book, text: &str) -> Result<Vec<u32>, Wrong> {
         if part.starts_with("0x") {
             code.push(number(part)?)?;
         } else {
-            code.extend_from_slice(book.program(part)?)?;
+            code.extend_from_slice(book.programs.get(part)?.as_slice())?;
         }
     }
     Ok(code)

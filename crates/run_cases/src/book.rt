@@ -5,7 +5,7 @@ use std::alloc::{Allocator, Global};
 
 /// Things by their names. A later one hides an earlier one of its name.
 #[derive(Debug, Drop)]
-struct Named<T> {
+pub struct Named<T> {
     entries: Vec<(String, T)>,
 }
 
@@ -16,7 +16,8 @@ impl<T> Named<T> {
         }
     }
 
-    fn get(&self, name: &str) -> Result<&T, Wrong> {
+    /// The thing of this name.
+    pub fn get(&self, name: &str) -> Result<&T, Wrong> {
         for entry in self.entries.iter().rev() {
             if entry.0.as_str() == name {
                 return Ok(&entry.1);
@@ -27,7 +28,8 @@ impl<T> Named<T> {
 }
 
 impl<T: Drop> Named<T> {
-    fn put(&mut self, alloc: Global, name: &str, thing: T) -> Result<(), Wrong> {
+    /// Names a thing. An error if no memory is left.
+    pub fn put(&mut self, alloc: Global, name: &str, thing: T) -> Result<(), Wrong> {
         let name = String::from_str(alloc, name)?;
         self.entries.push((name, thing))?;
         Ok(())
@@ -45,9 +47,9 @@ pub struct Mark {
 /// The programs, the byte strings and the tables of rows that were named.
 #[derive(Debug, Drop)]
 pub struct Book {
-    programs: Named<Vec<u32>>,
-    texts: Named<Vec<u8>>,
-    rows: Named<Vec<String>>,
+    pub programs: Named<Vec<u32>>,
+    pub texts: Named<Vec<u8>>,
+    pub rows: Named<Vec<String>>,
 }
 
 impl Book {
@@ -58,36 +60,6 @@ impl Book {
             texts: Named::new(alloc),
             rows: Named::new(alloc),
         }
-    }
-
-    /// The words of a program.
-    pub fn program(&self, name: &str) -> Result<&[u32], Wrong> {
-        Ok(self.programs.get(name)?.as_slice())
-    }
-
-    /// The bytes of a byte string.
-    pub fn text(&self, name: &str) -> Result<&[u8], Wrong> {
-        Ok(self.texts.get(name)?.as_slice())
-    }
-
-    /// The rows of a table.
-    pub fn rows(&self, name: &str) -> Result<&[String], Wrong> {
-        Ok(self.rows.get(name)?.as_slice())
-    }
-
-    /// Names a program of these words. An error if no memory is left.
-    pub fn put_program(&mut self, alloc: Global, name: &str, words: Vec<u32>) -> Result<(), Wrong> {
-        self.programs.put(alloc, name, words)
-    }
-
-    /// Names a text of these bytes. An error if no memory is left.
-    pub fn put_text(&mut self, alloc: Global, name: &str, bytes: Vec<u8>) -> Result<(), Wrong> {
-        self.texts.put(alloc, name, bytes)
-    }
-
-    /// Names a list of rows. An error if no memory is left.
-    pub fn put_rows(&mut self, alloc: Global, name: &str, rows: Vec<String>) -> Result<(), Wrong> {
-        self.rows.put(alloc, name, rows)
     }
 
     /// What is named so far.
