@@ -1,9 +1,11 @@
 -- A search is followed node by node.
-use Rattle.std.proofs.Common.{◌≡◌, ◌+◌, ◌∙◌, ℕ, Bool, true, false, List, [], ◌∷◌, ◌++◌, length, Result, Ok, refl, sym, ap, subst, arith}
-use Rattle.std.specs.Prelude.{◌&&◌}
+use Rattle.std.proofs.Common.{◌≡◌, ◌+◌, ◌-◌, ◌≤◌, ◌⊎◌, ◌∙◌, inl, inr, ℕ, Bool, true, false, List, [], ◌∷◌, ◌++◌, drop, is_some, length, take, Result, Ok, refl, sym, ap, subst, arith}
+use Rattle.std.specs.Prelude.{◌&&◌, ◌||◌}
+use Rattle.std.specs.List.{list_any}
+use Rattle.std.proofs.lemmas.Bool.Decides.{nat_tests}
 use Rattle.std.specs.declared.cmp.Ordering.{Ordering}
 use Rattle.std.proofs.lemmas.Bool.{false≢true}
-use Rattle.std.proofs.lemmas.List.{append-nil, length-append}
+use Rattle.std.proofs.lemmas.List.{append-nil, length-append, take-append-drop}
 use Rattle.graph_search.specs.declared.following.Turn.{Turn}
 use Rattle.graph_search.specs.declared.following.Turn.TheVariants.{Followed}
 use Rattle.graph_search.specs.declared.found.Cut.TheVariants.{Stopped}
@@ -21,9 +23,10 @@ use Rattle.order_search.specs.Found.{FindsAllOrders, FindsNodes, extent_after, s
 use Rattle.order_search.specs.Quests.{start_of}
 use Rattle.program_status.specs.Notes.{SinkSide}
 use Rattle.xousorders.proofs.KeptLemmas.{endings_kept, more_told}
-use Rattle.xousorders.specs.Endings.{AreEndings}
+use Rattle.xousorders.specs.Endings.{AddsOne, AreEndings, failing_of}
+use Rattle.xousorders.specs.Failures.{is_several}
 use Rattle.xousorders.specs.Halts.{Follows, HasGot}
-use Rattle.xousorders.specs.Reports.{MayStop, is_failure}
+use Rattle.xousorders.specs.Reports.{MayStop, but_last, is_failure}
 use Rattle.xousorders.specs.Searched.{telling_at}
 use Rattle.xousorders.specs.declared.endings.Ending.{Ending}
 use Rattle.xousorders.specs.declared.endings.Endings.{Endings}
@@ -87,6 +90,46 @@ module _ (cmp : List ℕ → List ℕ → Ordering) (limit : ℕ) (s now : Subje
       subst (λ (x : Subject). FindsAllOrders cmp (so_far x search (extent_after r))) same
       (subst (λ (x : Result Turn OrderFault). FindsAllOrders cmp (so_far now search (extent_after x))) is found)
 
+-- ---- no ending but the last is a failure
+
+neither : (a b : Bool) → (a || b) ≡ false → (a ≡ false) × (b ≡ false)
+neither true b e = absurd (false≢true (sym e))
+neither false b e = (refl, e)
+
+any_front : (f : Ending → Bool) (xs ys : List Ending) → list_any f (xs ++ ys) ≡ false → list_any f xs ≡ false
+any_front f [] ys e = refl
+any_front f (x ∷ xs) ys e =
+    let parts = neither (f x) (list_any f (xs ++ ys)) e in
+    (λ i. parts.0 i || any_front f xs ys parts.1 i)
+
+few_front : (differ : Bool) (m n : ℕ) → m ≤ n → is_several differ n ≡ false → is_several differ m ≡ false
+few_front false m n low e = refl
+few_front true m n low e = grind (arith, nat_tests)
+
+front_fine : (view : View) (xs ys : List Ending) → is_failure view (xs ++ ys) ≡ false → is_failure view xs ≡ false
+front_fine view xs ys e =
+    let fails : Ending → Bool = λ ending. is_some (failing_of view.fails.items ending.fails) in
+    let parts = neither (list_any fails (xs ++ ys)) (is_several view.differ (length (xs ++ ys))) e in
+    let size = length-append xs ys in
+    (λ i. any_front fails xs ys parts.0 i || few_front view.differ (length xs) (length (xs ++ ys)) (omega (arith, size)) parts.1 i)
+
+front_alone : (view : View) (list : List Ending) → is_failure view list ≡ false → is_failure view (but_last list) ≡ false
+front_alone view list none =
+    front_fine view (but_last list) (drop (length list - 1) list)
+    (ap (is_failure view) (take-append-drop (length list - 1) list) ∙ none)
+
+take_front : (xs ys : List Ending) → take (length xs) (xs ++ ys) ≡ xs
+take_front [] ys = refl
+take_front (x ∷ xs) ys = ap (λ (zs : List Ending). x ∷ zs) (take_front xs ys)
+
+-- an ending was added to those of which none is
+pub one_alone : (view : View) (old new : List Ending) → AddsOne old new → is_failure view old ≡ false → is_failure view (but_last new) ≡ false
+one_alone view old new (inl same) none = front_alone view new (ap (is_failure view) same ∙ none)
+one_alone view old new (inr more) none =
+    let size = ap length more.1 ∙ length-append old (more.0 ∷ []) in
+    let count : length new - 1 ≡ length old = omega (arith, size) in
+    ap (is_failure view) ((λ i. take (count i) (more.1 i)) ∙ take_front old (more.0 ∷ [])) ∙ none
+
 -- ---- a search goes no further
 
 module _ (cmp : List ℕ → List ℕ → Ordering) (limits : Limits) (view : View) (s : Subject) (search : Search Move (List ℕ) Note)
@@ -103,17 +146,20 @@ module _ (cmp : List ℕ → List ℕ → Ordering) (limits : Limits) (view : Vi
     got = got;
     stopped = λ is. absurd (other is);
     first = λ first fails. absurd (false≢true (sym (none first) ∙ fails));
+    alone = λ first. front_alone view endings.list.items (none first);
   }
 
   -- .. or as it is stopped
-  pub follows_to_stop : extent ≡ Cut Stopped → MayStop limits view endings.list.items → Follows cmp limits view s search endings sink extent
-  follows_to_stop is may = record {
+  pub follows_to_stop : extent ≡ Cut Stopped → MayStop limits view endings.list.items
+      → (limits.first ≡ true → is_failure view (but_last endings.list.items) ≡ false) → Follows cmp limits view s search endings sink extent
+  follows_to_stop is may alone = record {
     nodes = nodes;
     orders = orders;
     endings_are = are;
     got = got;
     stopped = λ _. may;
     first = λ _ _. is;
+    alone = alone;
   }
 
 -- ---- no failure yet

@@ -170,6 +170,7 @@ module _ (cmp : List ℕ → List ℕ → Ordering) (limits : Limits) (view : Vi
     strategy = strategy;
     stopped = follows.stopped;
     first = follows.first;
+    alone = follows.alone;
   }
 
   -- .. and as it was put

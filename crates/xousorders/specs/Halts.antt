@@ -1,5 +1,5 @@
 -- Searches that end untold, and what was written of them.
-use Rattle.std.specs.Prelude.{◌≡◌, ◌≤◌, ◌⊎◌, ℕ, true, List, length, Option}
+use Rattle.std.specs.Prelude.{◌≡◌, ◌≤◌, ◌⊎◌, ℕ, true, false, List, length, Option}
 use Rattle.std.specs.declared.cmp.Ordering.{Ordering}
 use Rattle.graph_search.specs.declared.found.Cut.TheVariants.{Stopped as StoppedBefore}
 use Rattle.graph_search.specs.declared.found.Extent.{Extent}
@@ -19,7 +19,7 @@ use Rattle.xk_ports.specs.Told.{Grows, GrowsByProperPrefix}
 use Rattle.xousorders.specs.Endings.{AreEndings, AreReal}
 use Rattle.xousorders.specs.Levels.{Account, IsAccount, IsLast, IsSoFar, Level, SoFar, account_lines, level_lines, so_far_lines}
 use Rattle.xousorders.specs.Lines.{found_lines}
-use Rattle.xousorders.specs.Reports.{Course, IsSearchedBehind, MayStop, SaysSo, course_lines, is_failure, report_of}
+use Rattle.xousorders.specs.Reports.{Course, IsSearchedBehind, MayStop, SaysSo, but_last, course_lines, is_failure, report_of}
 use Rattle.xousorders.specs.Searched.{IsStopped, telling_at}
 use Rattle.xousorders.specs.declared.endings.Ending.{Ending}
 use Rattle.xousorders.specs.declared.endings.Endings.{Endings}
@@ -97,6 +97,7 @@ module _ (cmp : List ℕ → List ℕ → Ordering) (limits : Limits) (view : Vi
     pub got : HasGot view sink endings.list.items
     pub stopped : extent ≡ Cut StoppedBefore → MayStop limits view endings.list.items
     pub first : limits.first ≡ true → is_failure view endings.list.items ≡ true → extent ≡ Cut StoppedBefore
+    pub alone : limits.first ≡ true → is_failure view (but_last endings.list.items) ≡ false
 
   -- what was found is so, and the lines of its endings were written
   pub record Finds (s : Subject) (sink : SinkSide) (told : Told) : Type 0 where

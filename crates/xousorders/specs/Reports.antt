@@ -1,5 +1,5 @@
 -- What is told of a search: its endings as they are found, and then its report.
-use Rattle.std.specs.Prelude.{◌≡◌, ◌⊎◌, ◌+◌, ◌++◌, ℕ, Bool, true, All, IsSome, List, [], length, None, Option, Some}
+use Rattle.std.specs.Prelude.{◌≡◌, ◌⊎◌, ◌+◌, ◌-◌, ◌++◌, ℕ, Bool, true, false, All, IsSome, List, [], length, None, Option, Some, take}
 use Rattle.std.specs.declared.cmp.Ordering.{Ordering}
 use Rattle.event_text.specs.Spelling.{AreAskable}
 use Rattle.graph_search.specs.declared.found.Cut.TheVariants.{Stopped}
@@ -80,6 +80,10 @@ IsSearchedBehind steps view asked searched (Some earlier) = IsBounded steps aske
 abbrev pub is_failure : View → List Ending → Bool
 is_failure view endings = tells_failure view.fails.items view.differ endings
 
+-- the endings but for the last one
+abbrev pub but_last : List Ending → List Ending
+but_last endings = take (length endings - 1) endings
+
 -- a search may stop with these endings: at a failure, if it was to stop at the first, or for its time
 abbrev pub MayStop : Limits → View → List Ending → Type 0
 MayStop limits view endings = ((limits.first ≡ true) × (is_failure view endings ≡ true)) ⊎ IsSome limits.seconds
@@ -92,7 +96,8 @@ pub record FindsAll (view : View) (r : Report) : Type 0 where
   pub shortest : r.finding.strategy ≡ Breadth → AreShortest (telling_in r.finding) view r.endings
 
 -- What was found is so, of at most so many nodes; and if the search is whole, and no two nodes have one digest, it is all. It was made by the
--- strategy that is asked for. It stopped at the first failure if that is asked for, and else for its time at most.
+-- strategy that is asked for. If it was to stop at the first failure, it did: no ending but the last is one. Else it stopped for its time at
+-- most.
 pub record SaysSo (cmp : List ℕ → List ℕ → Ordering) (limits : Limits) (view : View) (r : Report) : Type 0 where
   pub nodes : FindsNodes limits.states r.finding
   pub endings : TellsEndings (telling_in r.finding) view r.endings
@@ -100,3 +105,4 @@ pub record SaysSo (cmp : List ℕ → List ℕ → Ordering) (limits : Limits) (
   pub strategy : r.finding.strategy ≡ limits.strategy
   pub stopped : r.finding.extent ≡ Cut Stopped → MayStop limits view r.endings.list.items
   pub first : limits.first ≡ true → is_failure view r.endings.list.items ≡ true → r.finding.extent ≡ Cut Stopped
+  pub alone : limits.first ≡ true → is_failure view (but_last r.endings.list.items) ≡ false

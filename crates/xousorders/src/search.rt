@@ -5,7 +5,7 @@ ghost use Rattle.order_model.specs.Searches.{IsSound};
 ghost use Rattle.order_search.specs.Found.{FindsNodes, IsUnderWay, TellsOrders, so_far};
 ghost use Rattle.program_status.specs.Notes.{sink_side};
 ghost use Rattle.xk_ports.specs.Told.{Grows};
-ghost use Rattle.xousorders.specs.Endings.{AreEndings};
+ghost use Rattle.xousorders.specs.Endings.{AddsOne, AreEndings};
 ghost use Rattle.xousorders.specs.Halts.{BreaksCourse, BreaksOff, Finds, FindsBehind, Follows, HasGot, IsUntold};
 ghost use Rattle.xousorders.specs.Lines.{found_line};
 ghost use Rattle.xousorders.specs.Reports.{MayStop, is_failure};
@@ -71,6 +71,7 @@ fn tell_node<K: Sink>(
     requires node { node < length search.now.notes.items }
     ensures adds { let t = telling_at quest.old.subject search.now in
         OnOk result (AreEndings t view.now node endings.old → AreEndings t view.now (node + 1) endings.new) }
+    ensures one { OnOk result (AddsOne endings.old.list.items endings.new.list.items) }
     ensures got { (first : K) → HasGot view.now (sink_side K.Sink first out.old) endings.old.list.items
         → OnOk result (HasGot view.now (sink_side K.Sink first out.new) endings.new.list.items) }
     ensures breaks { (first : K) → HasGot view.now (sink_side K.Sink first out.old) endings.old.list.items

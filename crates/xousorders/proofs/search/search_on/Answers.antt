@@ -18,7 +18,7 @@ use Rattle.xousorders.specs.Reports.{MayStop, is_failure}
 use Rattle.xousorders.specs.Searched.{telling_at}
 use Rattle.xousorders.specs.declared.endings.Ending.{Ending}
 use Rattle.xousorders.proofs.EndingLemmas.{no_endings}
-use Rattle.xousorders.proofs.FollowLemmas.{before_node, behind_node, follows_to_end, follows_to_stop, nodes_found, none_fail, orders_found, others_kept}
+use Rattle.xousorders.proofs.FollowLemmas.{before_node, behind_node, follows_to_end, follows_to_stop, nodes_found, none_fail, one_alone, orders_found, others_kept}
 use Rattle.xousorders.proofs.ResultLemmas.{exit_says}
 use Rattle.xousorders.proofs.SinkLemmas.{halt_breaks, none_got}
 use Rattle.xousorders.proofs.ToldLemmas.{all_real}
@@ -124,6 +124,7 @@ returns-then-is_stopped-clause-follows g c =
     same _ (ap length c.notes-node.ensures) is c.tell_node.new.endings c.in_ok-tell_node.ensures.adds)
     (c.in_ok-tell_node.ensures.got c.args.out.now inv.got) refl
     (subst (λ (list : List Ending). MayStop c.args.limits.now view list) c.deref.ensures.value (c.is_stopped.ensures.may c.if-is_stopped.true))
+    (λ first. one_alone view c.loop-cut.endings.list.items c.tell_node.new.endings.list.items c.in_ok-tell_node.ensures.one (inv.none first))
 
 pub loop-cut-preserved : goal.loop-cut-preserved
 loop-cut-preserved g c =

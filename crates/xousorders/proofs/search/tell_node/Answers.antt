@@ -8,7 +8,7 @@ use Rattle.xousorders.specs.Lines.{found_line}
 use Rattle.xousorders.specs.Searched.{telling_at}
 use Rattle.xousorders.specs.declared.endings.Ending.{Ending}
 use Rattle.xousorders.proofs.EndingLemmas.{last_added}
-use Rattle.xousorders.proofs.ResultLemmas.{if_err_map, on_ok_map}
+use Rattle.xousorders.proofs.ResultLemmas.{if_err_map, on_ok, on_ok_map}
 use Rattle.xousorders.proofs.SinkLemmas.{line_breaks, line_got, stopped_breaks}
 use Rattle.xousorders.proofs.ToldLemmas.{all_real}
 use Rattle.xousorders.proofs.search.tell_node.Goals as goal
@@ -69,3 +69,6 @@ returns-clause-breaks g c first got are =
     (all_real t view c.args.node c.args.endings.now are c.requires.sound c.requires.told)
     (all_real t view (c.args.node + 1) c.pass.new.endings (c.in-Ok.ensures.adds are) c.requires.sound c.requires.told))
     untold
+
+pub returns-clause-one : goal.returns-clause-one
+returns-clause-one g c = on_ok c.write_found.result _ c.in-Ok.ensures.one
