@@ -6,7 +6,7 @@
 `xousorders` searches images of the examples and of bench/clients, a service of three clients with five calls each. Each time is the
 processor's for the whole program, the best of five runs or of N, and the memory is the most that it had at one time. The system
 counts what this script has as the program's when it starts it, so of a program that has less than that no more is told. A second
-table has searches that end at the first order that fails. -k makes only those with PART in their words. The program is $XOUSORDERS,
+table has searches that end at the first order that fails; one is ended after 200 seconds without any. -k makes only those with PART in their words. The program is $XOUSORDERS,
 else what stands in crates/xousorders/out. Without one it says so, and ends. A search with an option that the program doesn't have
 is skipped in words.
 """
@@ -37,14 +37,14 @@ SEARCHES = (
     "bench/clients/image",
     "examples/std/lend/image --states 1000",
 )
-# Searches for a race, which end with 1.
+# Searches for a race, which end with 1, or with 10 if they are ended before.
 RACES = (
     "examples/orders/sum.image --fails exit --first",
     "examples/orders/deadlock.image --fails waits --first",
     "examples/orders/reply.image --kill 3 --fails waits --first",
     "examples/orders/lost.image --quantum 1 --fails console-not=3 --first",
     "examples/orders/lost.image --preemptions 1 --fails console-not=3 --first",
-    "examples/orders/store.image --preemptions 1 --fails exit --first",
+    "examples/orders/store.image --preemptions 1 --fails exit --first --seconds 200",
 )
 
 
@@ -54,7 +54,7 @@ def searcher():
     return program.resolve() if os.access(program, os.X_OK) else None
 
 
-def run(words, wanted=0):
+def run(words, wanted=(0,)):
     """What a program wrote, how long it took, and how many bytes it had at most; nothing if it has no such option."""
     with tempfile.TemporaryFile() as written, tempfile.TemporaryFile() as said:
         process = subprocess.Popen(words, stdout=written, stderr=said)
@@ -65,7 +65,7 @@ def run(words, wanted=0):
         told, text = written.read().decode(), said.read().decode()
     if process.returncode == USAGE:
         return None
-    if process.returncode != wanted:
+    if process.returncode not in wanted:
         raise SystemExit(f"the run ended with {process.returncode}: {' '.join(map(str, words))}: {told[-200:]}{text}")
     return told, usage.ru_utime + usage.ru_stime, 1024 * usage.ru_maxrss
 
@@ -75,7 +75,7 @@ def memory_text(most):
     return f"{most / MIB:.1f}" if most > own else f"at most {own / MIB:.1f}"
 
 
-def searched(program, text, runs, wanted=0):
+def searched(program, text, runs, wanted=(0,)):
     """What a search told, the best time, and the most memory; nothing, with a sentence, if the program has no such option."""
     image, *options = text.split()
     made = [run([program, measure.TOP / image, *options], wanted) for _ in range(runs)]
@@ -100,12 +100,12 @@ def measure_searches(program, runs, part):
 def measure_races(program, runs, part):
     measure.begin_table(["Race", "States", "Slices", "The order that fails", "Seconds", "MiB"], is_timed=False)
     for text in filter(lambda text: part in text, RACES):
-        measured = searched(program, text, runs, found.FAILED)
+        measured = searched(program, text, runs, (found.FAILED, found.CUT))
         if measured:
             levels, took, most = measured
             states, slices = sum(told.states for told in levels), sum(told.slices for told in levels)
-            failing = next(ending for ending in levels[-1].endings if ending.fails)
-            numbers = [f"{states:,}", f"{slices:,}", failing.length, f"{took:.3f}", memory_text(most)]
+            failing = next((ending.length for ending in levels[-1].endings if ending.fails), "none, cut")
+            numbers = [f"{states:,}", f"{slices:,}", failing, f"{took:.3f}", memory_text(most)]
             print(f"| `{text}` | {' | '.join(numbers)} |", flush=True)
 
 

@@ -21,7 +21,6 @@ SLOWLY = (
     "hello/image --preemptions 2",
 )
 LOST = EXAMPLES / "orders" / "lost.image"
-STORE = EXAMPLES / "orders" / "store.image"
 LONG = EXAMPLES / "std" / "lend" / "image"  # a search of hours
 TIMER = EXAMPLES / "timer" / "image"
 FAULTY = (
@@ -70,8 +69,9 @@ class Preemptions(Case):
                 self.assertEqual((told.preemptions, told.states, told.slices, told.is_whole), (0, plain.states, plain.slices, True), words)
                 self.assertEqual({ending.seen: ending.nodes for ending in told.endings}, {ending.seen: ending.nodes for ending in plain.endings})
 
-    def find_race(self, image, failing):
+    def test_the_race_of_lost(self):
         """A race that no order without preemptions shows is found with one, and its event file leads to it."""
+        image, failing = LOST, "console-not=3"
         words = ["--preemptions", "1", "--fails", failing, "--first"]
         folder = self.folder / "written"
         folder.mkdir()
@@ -81,12 +81,6 @@ class Preemptions(Case):
         program = need_program()
         asked = asked_of(parser().parse_args([program, "--search", str(image), *words]))
         self.hold(checks_of_orders(program, image, asked, one, folder, f"{image.name} {' '.join(words)}"))
-
-    def test_the_race_of_lost(self):
-        self.find_race(LOST, "console-not=3")
-
-    def test_the_race_of_store(self):
-        self.find_race(STORE, "exit")
 
     def test_endings_are_told_when_they_are_found(self):
         for words in ("--quantum 1", "--quantum 1 --fails console-not=3", "--preemptions 1 --fails console-not=3"):
