@@ -1,6 +1,7 @@
 mod AboutLemmas
 mod BusyLemmas
 mod KeptLemmas
+pub mod LineLemmas
 mod NameLemmas
 mod RowLemmas
 mod TextLemmas

@@ -16,10 +16,11 @@ use Rattle.xk_base.proofs.CountingLemmas.{count_below-none}
 use Rattle.xk_base.specs.Tables.Counting.{count_below, listed_below}
 use Rattle.xousorders.proofs.ShownLemmas.{same_shown-Decides}
 use Rattle.xousorders.specs.Endings.{Adds, AddsOne, AreDifferent, AreEndings, IsAt, IsEndingOf, IsFirst, IsLook, IsNew, IsWithin, Lists, NoneIs, Shown}
-use Rattle.xousorders.specs.Endings.{ends_at, looks_at, node_shown, nodes_like, same_shown, shown_in}
-use Rattle.xousorders.specs.declared.endings.Ending.{Ending}
-use Rattle.xousorders.specs.declared.endings.Endings.{Endings}
-use Rattle.xousorders.specs.declared.endings.Look.{Look}
+use Rattle.order_text.specs.Endings.{looks_at}
+use Rattle.xousorders.specs.Endings.{ends_at, node_shown, nodes_like, same_shown, shown_in}
+use Rattle.order_text.specs.declared.endings.Ending.{Ending}
+use Rattle.order_text.specs.declared.endings.Endings.{Endings}
+use Rattle.order_text.specs.declared.endings.Look.{Look}
 use Rattle.xousorders.specs.declared.view.View.{View}
 
 -- an ending was added, or none

@@ -12,11 +12,12 @@ use Rattle.order_model.specs.Failing.{first_failing}
 use Rattle.order_model.specs.Moves.{Point}
 use Rattle.order_search.specs.Found.{telling_in}
 use Rattle.xousorders.specs.Calls.{AreNone, IsCut, Passes, TellsFailure}
-use Rattle.xousorders.specs.Endings.{IsAt, Shown, failing_of, shown_of}
-use Rattle.xousorders.specs.Failures.{FailsSo, NoneDiffer, NoneFails, asks_failure, fails_some, is_several, tells_failure}
+use Rattle.order_text.specs.Endings.{failing_of, fails_some, is_several}
+use Rattle.xousorders.specs.Endings.{IsAt, Shown, shown_of}
+use Rattle.xousorders.specs.Failures.{FailsSo, NoneDiffer, NoneFails, asks_failure, tells_failure}
 use Rattle.xousorders.specs.Outcomes.{is_whole}
 use Rattle.xousorders.specs.Reports.{FindsAll, Report, SaysSo}
-use Rattle.xousorders.specs.declared.endings.Ending.{Ending}
+use Rattle.order_text.specs.declared.endings.Ending.{Ending}
 use Rattle.xousorders.specs.declared.limits.Limits.{Limits}
 use Rattle.xousorders.specs.declared.view.View.{View}
 use Rattle.xousorders.proofs.EndingLemmas.{one_shown}

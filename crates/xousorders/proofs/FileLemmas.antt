@@ -12,7 +12,7 @@ use Rattle.order_model.specs.Moves.{Asked, events_of, events_of_move}
 use Rattle.xk_base.specs.declared.events.Event.{Event}
 use Rattle.xk_ports.proofs.ToldLemmas.{Grows-append, Grows-none}
 use Rattle.xk_ports.specs.Told.{Grows}
-use Rattle.xousorders.specs.declared.endings.Ending.{Ending}
+use Rattle.order_text.specs.declared.endings.Ending.{Ending}
 use Rattle.xousorders.specs.Files.{EventFile, event_file_of, files_below}
 
 -- an event of no number plays nothing

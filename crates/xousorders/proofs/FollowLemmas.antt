@@ -23,13 +23,13 @@ use Rattle.order_search.specs.Found.{FindsAllOrders, FindsNodes, extent_after, s
 use Rattle.order_search.specs.Quests.{start_of}
 use Rattle.program_status.specs.Notes.{SinkSide}
 use Rattle.xousorders.proofs.KeptLemmas.{endings_kept, more_told}
-use Rattle.xousorders.specs.Endings.{AddsOne, AreEndings, failing_of}
-use Rattle.xousorders.specs.Failures.{is_several}
+use Rattle.order_text.specs.Endings.{failing_of, is_several}
+use Rattle.xousorders.specs.Endings.{AddsOne, AreEndings}
 use Rattle.xousorders.specs.Halts.{Follows, HasGot}
 use Rattle.xousorders.specs.Reports.{MayStop, but_last, is_failure}
 use Rattle.xousorders.specs.Searched.{telling_at}
-use Rattle.xousorders.specs.declared.endings.Ending.{Ending}
-use Rattle.xousorders.specs.declared.endings.Endings.{Endings}
+use Rattle.order_text.specs.declared.endings.Ending.{Ending}
+use Rattle.order_text.specs.declared.endings.Endings.{Endings}
 use Rattle.xousorders.specs.declared.limits.Limits.{Limits}
 use Rattle.xousorders.specs.declared.view.View.{View}
 

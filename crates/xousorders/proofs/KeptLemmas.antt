@@ -15,8 +15,8 @@ use Rattle.xk_base.proofs.CountingLemmas.{count_below-same, listed_below-same}
 use Rattle.xousorders.proofs.EndingLemmas.{ended}
 use Rattle.xousorders.specs.Endings.{AreEndings, IsAt, IsEndingOf, IsFirst, IsLook, IsWithin, Shown}
 use Rattle.xousorders.specs.Endings.{ends_at, node_shown, nodes_like, same_shown, shown_of}
-use Rattle.xousorders.specs.declared.endings.Ending.{Ending}
-use Rattle.xousorders.specs.declared.endings.Endings.{Endings}
+use Rattle.order_text.specs.declared.endings.Ending.{Ending}
+use Rattle.order_text.specs.declared.endings.Endings.{Endings}
 use Rattle.xousorders.specs.declared.view.View.{View}
 
 -- the search told more edges and notes

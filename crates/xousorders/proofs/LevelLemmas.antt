@@ -14,14 +14,14 @@ use Rattle.xk_base.specs.Outside.{Rose}
 use Rattle.xk_ports.proofs.ToldLemmas.{Grows-append, Grows-none}
 use Rattle.xk_ports.specs.Told.{Grows, GrowsByProperPrefix}
 use Rattle.xousorders.proofs.CallLemmas.{break_bounded, break_other}
-use Rattle.xousorders.proofs.LineLemmas.{found_none}
+use Rattle.order_text.proofs.LineLemmas.{found_none}
 use Rattle.xousorders.proofs.SinkLemmas.{break_since, none_real, part_behind, rose_before, side, writes_behind}
 use Rattle.xousorders.specs.Halts.{BreaksCourse, BreaksOff, EndsIn, Finds, FindsBehind, HaltsIn, TellsAll, TellsLevel}
 use Rattle.xousorders.specs.Levels.{AreLevels, IsLast, IsLevel, Level, level_lines, levels_lines, with_preemptions}
-use Rattle.xousorders.specs.Lines.{counting_line, found_lines}
+use Rattle.order_text.specs.Lines.{counting_line, found_lines}
 use Rattle.xousorders.specs.Reports.{IsSearchedBehind, SaysSo, course_lines, report_lines, report_of}
 use Rattle.xousorders.specs.Searched.{IsBounded, bounded}
-use Rattle.xousorders.specs.declared.endings.Ending.{Ending}
+use Rattle.order_text.specs.declared.endings.Ending.{Ending}
 use Rattle.xousorders.specs.declared.halt.Halt.{Halt}
 use Rattle.xousorders.specs.declared.halt.Halt.TheVariants.{Stopped, Timer, Unwritten}
 use Rattle.xousorders.specs.declared.limits.Limits.{Limits}

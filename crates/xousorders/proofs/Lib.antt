@@ -6,7 +6,6 @@ mod FileLemmas
 mod FollowLemmas
 mod KeptLemmas
 mod LevelLemmas
-mod LineLemmas
 mod ReplayLemmas
 mod ResultLemmas
 mod RowLemmas

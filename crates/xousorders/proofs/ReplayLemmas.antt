@@ -24,7 +24,7 @@ use Rattle.xousorders.specs.Files.{with_feed}
 use Rattle.xousorders.specs.Levels.{IsLevel, Level, with_preemptions}
 use Rattle.xousorders.specs.Replayed.{AreReplayed}
 use Rattle.xousorders.specs.Reports.{AreSpelled, IsSearchedBehind, Report, files_in}
-use Rattle.xousorders.specs.declared.endings.Ending.{Ending}
+use Rattle.order_text.specs.declared.endings.Ending.{Ending}
 use Rattle.xousorders.specs.declared.view.View.{View}
 
 -- ---- whole lines

@@ -16,7 +16,8 @@ use Rattle.order_model.specs.Failing.{fails_at, fails_of, first_failing}
 use Rattle.order_model.specs.Moves.{Asked, Point}
 use Rattle.order_model.specs.Nodes.{node_of}
 use Rattle.order_text.specs.Texts.{seen_text}
-use Rattle.xousorders.specs.Endings.{Shown, failing_of, same_place, same_shown, shown_of}
+use Rattle.order_text.specs.Endings.{failing_of}
+use Rattle.xousorders.specs.Endings.{Shown, same_place, same_shown, shown_of}
 use Rattle.xousorders.specs.declared.view.View.{View}
 
 -- ---- two are told alike

@@ -10,13 +10,13 @@ use Rattle.xk_ports.proofs.ToldLemmas.{Grows-append, Grows-none}
 use Rattle.xk_ports.specs.Told.{Grows, GrowsByProperPrefix}
 use Rattle.xousorders.specs.Endings.{AreReal}
 use Rattle.xousorders.specs.Halts.{BreaksOff, HasGot, IsBreak, IsHalt, IsUntold, Writes}
-use Rattle.xousorders.specs.Lines.{found_line, found_lines}
+use Rattle.order_text.specs.Lines.{found_line, found_lines}
 use Rattle.xousorders.specs.Searched.{IsStopped}
-use Rattle.xousorders.specs.declared.endings.Ending.{Ending}
+use Rattle.order_text.specs.declared.endings.Ending.{Ending}
 use Rattle.xousorders.specs.declared.halt.Halt.{Halt}
 use Rattle.xousorders.specs.declared.halt.Halt.TheVariants.{Stopped, Timer, Unwritten}
 use Rattle.xousorders.specs.declared.view.View.{View}
-use Rattle.xousorders.proofs.LineLemmas.{found_more, found_none}
+use Rattle.order_text.proofs.LineLemmas.{found_more, found_none}
 
 -- ---- counts of faults
 

@@ -31,11 +31,12 @@ use Rattle.graph_search.specs.declared.found.Strategy.TheVariants.{Breadth}
 use Rattle.graph_search.specs.declared.search.Search.{Search}
 use Rattle.program_status.specs.Notes.{SinkSide}
 use Rattle.xousorders.specs.Endings.{AreEndings, AreReal, AreShortest, IsAt, IsEndingOf, IsWithin, Shown, TellsAllEndings, TellsEndings}
-use Rattle.xousorders.specs.Endings.{ends_at, failing_of, node_shown, searching_in, shown_in, shown_of}
+use Rattle.order_text.specs.Endings.{failing_of}
+use Rattle.xousorders.specs.Endings.{ends_at, node_shown, searching_in, shown_in, shown_of}
 use Rattle.xousorders.specs.Halts.{Finds, Follows, HasGot}
 use Rattle.xousorders.specs.Reports.{SaysSo}
-use Rattle.xousorders.specs.declared.endings.Ending.{Ending}
-use Rattle.xousorders.specs.declared.endings.Endings.{Endings}
+use Rattle.order_text.specs.declared.endings.Ending.{Ending}
+use Rattle.order_text.specs.declared.endings.Endings.{Endings}
 use Rattle.xousorders.specs.declared.limits.Limits.{Limits}
 use Rattle.xousorders.specs.declared.search.Told.{Told}
 use Rattle.xousorders.specs.declared.view.View.{View}

@@ -19,7 +19,8 @@ use Rattle.xk_ports.specs.declared.host.Host.{Ghosts as Host}
 use Rattle.xk_ports.specs.declared.sink.Sink.{Ghosts as Sink}
 use Rattle.xk_ports.specs.Told.{Grows}
 use Rattle.xousorders.specs.Asked.{Asking, HostFiles, IsAsked, Stops, asking_of}
-use Rattle.xousorders.specs.Failures.{FailsSo, NoneDiffer, NoneFails, asks_failure, is_several, tells_failure}
+use Rattle.order_text.specs.Endings.{is_several}
+use Rattle.xousorders.specs.Failures.{FailsSo, NoneDiffer, NoneFails, asks_failure, tells_failure}
 use Rattle.xousorders.specs.Files.{EventFile}
 use Rattle.xousorders.specs.Halts.{EndsIn}
 use Rattle.xousorders.specs.Levels.{Account, IsAccount, IsLast, account_lines}

@@ -1,6 +1,6 @@
 -- The endings that are told of a search: those that are told alike are one.
-use Rattle.std.specs.Prelude.{◌≡◌, ◌<◌, ◌≤◌, ◌==◌, ◌&&◌, ◌⊎◌, ◌++◌, ℕ, Bool, true, false, List, [], ◌∷◌, All, filter, length, map, slice_get, Option, Some, None}
-use Rattle.std.specs.Option.{option_and_then, option_map_or}
+use Rattle.std.specs.Prelude.{◌≡◌, ◌<◌, ◌≤◌, ◌==◌, ◌&&◌, ◌⊎◌, ◌++◌, ℕ, Bool, true, false, List, [], ◌∷◌, All, length, map, slice_get, Option, Some, None}
+use Rattle.std.specs.Option.{option_map_or}
 use Rattle.std.specs.Str.{bytes_eq}
 use Rattle.order_model.specs.declared.moves.Move.{Move}
 use Rattle.order_model.specs.declared.failing.Failing.{Failing}
@@ -10,14 +10,15 @@ use Rattle.order_model.specs.Moves.{Point, leads_by}
 use Rattle.order_model.specs.Nodes.{after, node_of}
 use Rattle.order_model.specs.Searches.{Telling}
 use Rattle.order_search.specs.Quests.{Searching}
+use Rattle.order_text.specs.Endings.{failing_of, looks_at}
 use Rattle.order_text.specs.Texts.{seen_text}
 use Rattle.graph_search.specs.Paths.{labels_to}
 use Rattle.graph_search.specs.Told.{IsFound}
 use Rattle.xk_base.specs.declared.limits.TheConstants.{STEP_LIMIT}
 use Rattle.xk_base.specs.Tables.Counting.{count_below, listed_below}
-use Rattle.xousorders.specs.declared.endings.Ending.{Ending}
-use Rattle.xousorders.specs.declared.endings.Endings.{Endings}
-use Rattle.xousorders.specs.declared.endings.Look.{Look}
+use Rattle.order_text.specs.declared.endings.Ending.{Ending}
+use Rattle.order_text.specs.declared.endings.Endings.{Endings}
+use Rattle.order_text.specs.declared.endings.Look.{Look}
 use Rattle.xousorders.specs.declared.view.View.{View}
 
 -- ---- how endings are told
@@ -42,10 +43,6 @@ same_place (Some j) (Some k) = j == k
 -- both are told alike
 abbrev pub same_shown : Shown → Shown → Bool
 same_shown one other = bytes_eq one.text other.text && same_place one.fails other.fails
-
--- of what an ending is told to fail
-abbrev pub failing_of : List Failing → Option ℕ → Option Failing
-failing_of list fails = option_and_then (slice_get list) fails
 
 -- ---- of nodes
 
@@ -96,10 +93,6 @@ pub record IsLook (t : Telling) (view : View) (endings : Endings) (node : ℕ) :
   pub is : slice_get endings.looks.items place ≡ Some look
   pub of_node : look.node ≡ node
   pub alike : IsAt endings.list.items look.ending (node_shown t view node)
-
--- how many nodes are told to be like the ending at this place
-abbrev pub looks_at : List Look → ℕ → ℕ
-looks_at looks place = length (filter (λ look. look.ending == place) looks)
 
 -- the nodes that are told are those of the first n where orders end, in the order of their numbers, each once
 abbrev pub AreNodes : Telling → ℕ → Endings → Type 0

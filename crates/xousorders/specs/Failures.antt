@@ -1,25 +1,18 @@
 -- The endings that fail: what is told of them, and what it says of orders.
-use Rattle.std.specs.Prelude.{◌≡◌, ◌||◌, ℕ, Bool, true, false, ◌&&◌, nat_lt, is_some, List, length, slice_get, Some}
-use Rattle.std.specs.List.{Contains, list_any}
+use Rattle.std.specs.Prelude.{◌≡◌, ◌||◌, ℕ, Bool, true, false, nat_lt, List, length, slice_get, Some}
+use Rattle.std.specs.List.{Contains}
 use Rattle.order_model.specs.declared.failing.Failing.{Failing}
 use Rattle.order_model.specs.declared.moves.Move.{Move}
 use Rattle.order_model.specs.Endings.{is_ending}
 use Rattle.order_model.specs.Failing.{fails_of}
 use Rattle.order_model.specs.Moves.{Point, leads_by}
 use Rattle.order_model.specs.Searches.{Telling}
-use Rattle.xousorders.specs.Endings.{failing_of, shown_of}
-use Rattle.xousorders.specs.declared.endings.Ending.{Ending}
+use Rattle.order_text.specs.Endings.{failing_of, fails_some, is_several}
+use Rattle.xousorders.specs.Endings.{shown_of}
+use Rattle.order_text.specs.declared.endings.Ending.{Ending}
 use Rattle.xousorders.specs.declared.view.View.{View}
 
 -- ---- what is told
-
--- there was to be one ending at most, and there are so many
-abbrev pub is_several : Bool → ℕ → Bool
-is_several differ endings = differ && nat_lt 1 endings
-
--- an ending fails of one of these
-abbrev pub fails_some : List Failing → List Ending → Bool
-fails_some fails list = list_any (λ ending. is_some (failing_of fails ending.fails)) list
 
 -- a line tells of a failure
 abbrev pub tells_failure : List Failing → Bool → List Ending → Bool

@@ -5,7 +5,7 @@ use Rattle.event_text.specs.Spelling.{event_lines}
 use Rattle.event_text.specs.Lines.{is_last}
 use Rattle.order_model.specs.declared.moves.Move.{Move}
 use Rattle.order_model.specs.Moves.{Asked, events_of}
-use Rattle.xousorders.specs.declared.endings.Ending.{Ending}
+use Rattle.order_text.specs.declared.endings.Ending.{Ending}
 
 -- the last line ends with a line feed too
 abbrev pub with_feed : List ℕ → List ℕ

@@ -18,11 +18,11 @@ use Rattle.xk_base.specs.Outside.{Rose}
 use Rattle.xk_ports.specs.Told.{Grows, GrowsByProperPrefix}
 use Rattle.xousorders.specs.Endings.{AreEndings, AreReal}
 use Rattle.xousorders.specs.Levels.{Account, IsAccount, IsLast, IsSoFar, Level, SoFar, account_lines, level_lines, so_far_lines}
-use Rattle.xousorders.specs.Lines.{found_lines}
+use Rattle.order_text.specs.Lines.{found_lines}
 use Rattle.xousorders.specs.Reports.{Course, IsSearchedBehind, MayStop, SaysSo, but_last, course_lines, is_failure, report_of}
 use Rattle.xousorders.specs.Searched.{IsStopped, telling_at}
-use Rattle.xousorders.specs.declared.endings.Ending.{Ending}
-use Rattle.xousorders.specs.declared.endings.Endings.{Endings}
+use Rattle.order_text.specs.declared.endings.Ending.{Ending}
+use Rattle.order_text.specs.declared.endings.Endings.{Endings}
 use Rattle.xousorders.specs.declared.halt.Halt.{Halt}
 use Rattle.xousorders.specs.declared.halt.Halt.TheVariants.{Stopped, Timer, Unwritten}
 use Rattle.xousorders.specs.declared.limits.Limits.{Limits}

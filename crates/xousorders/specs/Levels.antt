@@ -7,7 +7,7 @@ use Rattle.order_search.specs.declared.subject.Subject.{Subject}
 use Rattle.order_search.specs.Quests.{searching_of}
 use Rattle.xousorders.specs.Endings.{AreReal}
 use Rattle.xousorders.specs.Reports.{Course, IsSearchedBehind, Report, SaysSo, course_lines, report_lines}
-use Rattle.xousorders.specs.declared.endings.Ending.{Ending}
+use Rattle.order_text.specs.declared.endings.Ending.{Ending}
 use Rattle.xousorders.specs.declared.limits.Limits.{Limits}
 use Rattle.xousorders.specs.declared.view.View.{View}
 

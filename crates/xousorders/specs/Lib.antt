@@ -6,7 +6,6 @@ pub mod Failures
 pub mod Files
 pub mod Halts
 pub mod Levels
-pub mod Lines
 pub mod Outcomes
 pub mod Replayed
 pub mod Reports

@@ -9,7 +9,7 @@ use Rattle.order_search.specs.Quests.{start_of}
 use Rattle.order_search.specs.Replays.{EndsAt}
 use Rattle.xk_base.specs.declared.limits.TheConstants.{EVENT_FILE_LIMIT, STEP_LIMIT}
 use Rattle.xk_kernel.specs.Start.{start}
-use Rattle.xousorders.specs.declared.endings.Ending.{Ending}
+use Rattle.order_text.specs.declared.endings.Ending.{Ending}
 use Rattle.xousorders.specs.declared.view.View.{View}
 use Rattle.xousorders.specs.Endings.{shown_in, shown_of}
 use Rattle.xousorders.specs.Files.{order_file}

@@ -13,10 +13,10 @@ use Rattle.order_search.specs.Quests.{searching_of}
 use Rattle.xousorders.specs.Endings.{AreReal, AreShortest, TellsAllEndings, TellsEndings}
 use Rattle.xousorders.specs.Failures.{tells_failure}
 use Rattle.xousorders.specs.Files.{EventFile, order_files}
-use Rattle.xousorders.specs.Lines.{counting_line, differ_text, endings_text, extent_head, failures_text, found_lines, limits_text}
-use Rattle.xousorders.specs.Searched.{IsBounded, slices_tried}
-use Rattle.xousorders.specs.declared.endings.Ending.{Ending}
-use Rattle.xousorders.specs.declared.endings.Endings.{Endings}
+use Rattle.order_text.specs.Lines.{counting_line, differ_text, endings_text, extent_head, failures_text, found_lines, limits_text, slices_tried}
+use Rattle.xousorders.specs.Searched.{IsBounded}
+use Rattle.order_text.specs.declared.endings.Ending.{Ending}
+use Rattle.order_text.specs.declared.endings.Endings.{Endings}
 use Rattle.xousorders.specs.declared.limits.Limits.{Limits}
 use Rattle.xousorders.specs.declared.search.Told.{Told}
 use Rattle.xousorders.specs.declared.view.View.{View}

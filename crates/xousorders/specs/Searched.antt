@@ -1,5 +1,5 @@
 -- Which orders were searched, and why they aren't searched on.
-use Rattle.std.specs.Prelude.{◌≡◌, ℕ, List, map, min, Some, sum}
+use Rattle.std.specs.Prelude.{◌≡◌, ℕ, List, Some}
 use Rattle.graph_search.specs.declared.search.Search.{Search}
 use Rattle.order_model.specs.declared.moves.Move.{Move}
 use Rattle.order_model.specs.declared.moves.Note.{Note}
@@ -25,10 +25,6 @@ pub record IsBounded (steps : ℕ) (asked searched : Subject) : Type 0 where
 -- what a search of these orders tells so far
 abbrev pub telling_at : Subject → Search Move (List ℕ) Note → Telling
 telling_at s search = telling_of (searching_of s) search.strategy search.edges.items search.notes.items
-
--- how many slices were tried from the nodes that were followed; more than 64 bits hold aren't counted
-abbrev pub slices_tried : List Note → ℕ
-slices_tried notes = min (sum (map (λ note. note.slices) notes)) 18446744073709551615
 
 -- Orders aren't searched on: the events before meet the step limit, or an order comes near it; the events before have this first bad line; or
 -- there is no memory.

@@ -1,9 +1,9 @@
 //! The endings of a search: those that are told alike are one.
 
-ghost use Rattle.std.specs.Prelude.{◌≡◌, ◌<◌, ◌+◌, IfErr, IfSome, IfOk, OnOk, None, [], length, true};
+ghost use Rattle.std.specs.Prelude.{◌≡◌, ◌<◌, ◌+◌, IfErr, IfSome, IfOk, OnOk, None, length, true};
 ghost use Rattle.order_model.specs.Searches.{IsSound};
 ghost use Rattle.order_search.specs.Found.{TellsOrders};
-ghost use Rattle.xousorders.specs.Endings.{Adds, AddsOne, AreEndings, IsAt, Lists, NoneIs, ends_at, looks_at};
+ghost use Rattle.xousorders.specs.Endings.{Adds, AddsOne, AreEndings, IsAt, Lists, NoneIs, ends_at};
 ghost use Rattle.xousorders.specs.Endings.{same_place as same_place_of, same_shown, shown_in};
 ghost use Rattle.xousorders.specs.Searched.{IsStopped, telling_at};
 
@@ -12,46 +12,9 @@ use crate::view::View;
 use graph_search::{Search, path_to};
 use order_model::{Move, Note, first_failing};
 use order_search::{Quest, Stand};
-use order_text::put_seen;
+use order_text::{Ending, Endings, Look, put_seen};
 use program_status::Status;
 use std::alloc::{AllocError, Global};
-
-/// An ending that is told otherwise than those before it: what is seen of it, the place of the first of those things of which it fails,
-/// the number of the first node that is told so, and the order to it.
-#[derive(Drop)]
-pub struct Ending {
-    pub seen: Vec<u8>,
-    pub fails: Option<usize>,
-    pub first: usize,
-    pub order: Vec<Move>,
-}
-
-/// A node where orders end, and the place of the ending that it is like.
-#[derive(Clone, Copy, Debug)]
-pub struct Look {
-    pub node: usize,
-    pub ending: usize,
-}
-
-/// All endings, and the nodes that are like them.
-#[derive(Drop)]
-pub struct Endings {
-    pub list: Vec<Ending>,
-    pub looks: Vec<Look>,
-}
-
-impl Endings {
-    /// None yet.
-    pub fn new(alloc: Global) -> Endings
-        ensures list { result.list.items ≡ [] }
-        ensures looks { result.looks.items ≡ [] }
-    {
-        Endings {
-            list: Vec::new(alloc),
-            looks: Vec::new(alloc),
-        }
-    }
-}
 
 /// Whether two endings fail of the same.
 fn same_place(one: Option<usize>, other: Option<usize>) -> bool
@@ -180,11 +143,4 @@ pub fn pass(
     } else {
         Ok(())
     }
-}
-
-/// How many nodes are like the ending at this place.
-pub fn count_looks(looks: &[Look], place: usize) -> u64
-    ensures { result ≡ looks_at looks.now place }
-{
-    looks.iter().filter(|look| look.ending == place).count() as u64
 }

@@ -8,10 +8,10 @@ ghost use Rattle.xk_ports.specs.Told.{Grows};
 ghost use Rattle.xousorders.specs.Files.{event_file_of, order_file, order_files, with_feed};
 ghost use Rattle.xousorders.specs.Outcomes.{IsUnfiled};
 
-use crate::endings::Ending;
 use crate::event_files::EventFiles;
 use event_text::event_file;
 use order_model::Move;
+use order_text::Ending;
 use program_status::Status;
 use std::alloc::{AllocError, Global};
 use xk_base::{Event, Pid, ThreadId, Tid};

@@ -6,7 +6,6 @@ ghost use Rattle.program_status.specs.Notes.{sink_side};
 ghost use Rattle.xousorders.specs.Halts.{EndsIn, HaltsIn, TellsAll, TellsLevel};
 ghost use Rattle.xousorders.specs.Reports.{report_lines, report_of, searched_line};
 
-use crate::answer::{put_differ, put_endings, put_extent, put_failures, put_limits, slices_tried};
 use crate::halt::Halt;
 use crate::limits::Limits;
 use crate::outcome::is_whole;
@@ -16,6 +15,7 @@ use crate::watching::Watch;
 use graph_search::Found;
 use order_model::{Move, Note};
 use order_search::Quest;
+use order_text::{put_differ, put_endings, put_extent, put_failures, put_limits, slices_tried};
 use program_status::Status;
 use std::alloc::{AllocError, Global};
 use xk_ports::{Sink, put_all};

@@ -1,13 +1,10 @@
 //! All orders of the threads of an image are searched, and each different ending is told.
 #![tactic(auto)]
 
-mod answer;
 mod command_line;
 mod endings;
 mod event_files;
-mod failures;
 mod files;
-mod found_lines;
 mod halt;
 mod image;
 mod levels;
@@ -16,7 +13,6 @@ mod notes;
 mod outcome;
 mod run;
 mod search;
-mod sizes;
 mod view;
 mod watching;
 

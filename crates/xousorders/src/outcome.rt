@@ -8,11 +8,10 @@ ghost use Rattle.xousorders.specs.Failures.{asks_failure, tells_failure};
 ghost use Rattle.xousorders.specs.Outcomes.{is_whole as is_whole_extent, number_of, outcome_of, passed as passed_of};
 ghost use Rattle.xousorders.specs.Searched.{IsStopped};
 
-use crate::endings::Ending;
-use crate::failures::{has_failed, is_several};
 use graph_search::{Extent, Unanswered};
 use order_model::Failing;
 use order_search::OrderFault;
+use order_text::{Ending, has_failed, is_several};
 use program_status::Status;
 use xk_base::limits::STEP_LIMIT;
 

@@ -1,5 +1,5 @@
 use Rattle.std.proofs.Common.{List, arith, inl, inr, refl, subst, ℕ}
-use Rattle.xousorders.specs.declared.endings.Ending.{Ending}
+use Rattle.order_text.specs.declared.endings.Ending.{Ending}
 use Rattle.xousorders.specs.Endings.{IsAt, NoneIs}
 use Rattle.xousorders.proofs.EndingLemmas.{pushed_at}
 use Rattle.xousorders.proofs.endings.place_for.Goals as goal

@@ -7,7 +7,7 @@ use Rattle.xk_base.specs.Outside.{Rose}
 use Rattle.xk_ports.specs.Told.{Grows}
 use Rattle.xousorders.specs.Files.{files_below}
 use Rattle.xousorders.specs.Outcomes.{IsUnfiled}
-use Rattle.xousorders.specs.declared.endings.Ending.{Ending}
+use Rattle.order_text.specs.declared.endings.Ending.{Ending}
 use Rattle.xousorders.proofs.CallLemmas.{unfiled_later}
 use Rattle.xousorders.proofs.ResultLemmas.{exit_says}
 use Rattle.xousorders.proofs.FileLemmas.{file_more, no_files}

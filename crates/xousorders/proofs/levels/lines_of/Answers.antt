@@ -1,8 +1,8 @@
 use Rattle.std.proofs.Common.{◌≡◌, ◌∙◌, ◌++◌, List, ℕ, ap, arith, length}
 use Rattle.order_search.specs.Found.{finding_of}
-use Rattle.xousorders.specs.Lines.{differ_text, endings_text, failures_text}
+use Rattle.order_text.specs.Lines.{differ_text, endings_text, failures_text}
 use Rattle.xousorders.specs.Reports.{searched_line}
-use Rattle.xousorders.proofs.LineLemmas.{four_pieces}
+use Rattle.order_text.proofs.LineLemmas.{four_pieces}
 use Rattle.xousorders.proofs.levels.lines_of.Goals as goal
 
 pub returns : goal.returns

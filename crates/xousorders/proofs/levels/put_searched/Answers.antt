@@ -1,8 +1,7 @@
 use Rattle.std.proofs.Common.{◌≡◌, ◌+◌, ◌∙◌, ◌++◌, List, OnOk, ℕ, ap, arith, length, subst}
 use Rattle.order_model.specs.declared.moves.Note.{Note}
-use Rattle.xousorders.specs.Lines.{extent_head, limits_text}
-use Rattle.xousorders.specs.Searched.{slices_tried}
-use Rattle.xousorders.proofs.LineLemmas.{two_pieces}
+use Rattle.order_text.specs.Lines.{extent_head, limits_text, slices_tried}
+use Rattle.order_text.proofs.LineLemmas.{two_pieces}
 use Rattle.xousorders.proofs.levels.put_searched.Goals as goal
 
 pub returns : goal.returns

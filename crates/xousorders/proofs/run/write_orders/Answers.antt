@@ -6,7 +6,7 @@ use Rattle.order_model.specs.Moves.{Asked, events_of}
 use Rattle.xk_ports.specs.Told.{Grows}
 use Rattle.xousorders.specs.Reports.{Report, files_in, report_of}
 use Rattle.xousorders.specs.Files.{EventFile, order_files}
-use Rattle.xousorders.specs.declared.endings.Ending.{Ending}
+use Rattle.order_text.specs.declared.endings.Ending.{Ending}
 use Rattle.xousorders.proofs.FileLemmas.{no_files_in}
 use Rattle.xousorders.proofs.run.write_orders.Goals as goal
 

@@ -16,7 +16,7 @@ use Rattle.xousorders.specs.Endings.{AreEndings}
 use Rattle.xousorders.specs.Halts.{BreaksOff}
 use Rattle.xousorders.specs.Reports.{MayStop, is_failure}
 use Rattle.xousorders.specs.Searched.{telling_at}
-use Rattle.xousorders.specs.declared.endings.Ending.{Ending}
+use Rattle.order_text.specs.declared.endings.Ending.{Ending}
 use Rattle.xousorders.proofs.EndingLemmas.{no_endings}
 use Rattle.xousorders.proofs.FollowLemmas.{before_node, behind_node, follows_to_end, follows_to_stop, nodes_found, none_fail, one_alone, orders_found, others_kept}
 use Rattle.xousorders.proofs.ResultLemmas.{exit_says}

@@ -4,9 +4,9 @@ use Rattle.order_model.specs.declared.failing.Failing.{Failing}
 use Rattle.program_status.specs.Notes.{sink_side}
 use Rattle.xk_ports.specs.Told.{Grows}
 use Rattle.xousorders.specs.Halts.{IsUntold}
-use Rattle.xousorders.specs.Lines.{found_line}
+use Rattle.order_text.specs.Lines.{found_line}
 use Rattle.xousorders.specs.Searched.{telling_at}
-use Rattle.xousorders.specs.declared.endings.Ending.{Ending}
+use Rattle.order_text.specs.declared.endings.Ending.{Ending}
 use Rattle.xousorders.proofs.EndingLemmas.{last_added}
 use Rattle.xousorders.proofs.ResultLemmas.{if_err_map, on_ok, on_ok_map}
 use Rattle.xousorders.proofs.SinkLemmas.{line_breaks, line_got, stopped_breaks}

@@ -1,6 +1,6 @@
 use Rattle.std.proofs.Common.{◌≡◌, ◌++◌, ◌∙◌, List, ap, subst, ℕ}
 use Rattle.xk_ports.specs.Told.{GrowsByProperPrefix}
-use Rattle.xousorders.specs.Lines.{found_line}
+use Rattle.order_text.specs.Lines.{found_line}
 use Rattle.xousorders.proofs.search.write_found.Goals as goal
 
 pub returns-clause-untold : goal.returns-clause-untold

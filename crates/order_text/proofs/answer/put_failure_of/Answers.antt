@@ -2,8 +2,8 @@ use Rattle.std.proofs.Common.{◌≡◌, ◌++◌, ◌∙◌, [], List, OnOk, Op
 use Rattle.std.specs.Option.{option_map_or}
 use Rattle.order_model.specs.declared.failing.Failing.{Failing}
 use Rattle.order_model.specs.declared.moves.Move.{Move}
-use Rattle.xousorders.specs.Lines.{failure_line}
-use Rattle.xousorders.proofs.answer.put_failure_of.Goals as goal
+use Rattle.order_text.specs.Lines.{failure_line}
+use Rattle.order_text.proofs.answer.put_failure_of.Goals as goal
 
 pub returns-in-Some : goal.returns-in-Some
 returns-in-Some c =

@@ -2,8 +2,7 @@
 
 ghost use Rattle.std.specs.List.{list_any};
 ghost use Rattle.std.specs.Prelude.{◌≡◌, is_some};
-ghost use Rattle.xousorders.specs.Endings.{failing_of as failing_of_place};
-ghost use Rattle.xousorders.specs.Failures.{fails_some, is_several as are_several};
+ghost use Rattle.order_text.specs.Endings.{failing_of as failing_of_place, fails_some, is_several as are_several};
 
 use crate::endings::Ending;
 use order_model::Failing;

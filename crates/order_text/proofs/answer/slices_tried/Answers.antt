@@ -1,8 +1,8 @@
 use Rattle.std.proofs.Common.{◌∙◌, List, ap, arith, take_all}
 use Rattle.order_model.specs.declared.moves.Note.{Note}
-use Rattle.xousorders.specs.Searched.{slices_tried}
-use Rattle.xousorders.proofs.LineLemmas.{tried_more}
-use Rattle.xousorders.proofs.answer.slices_tried.Goals as goal
+use Rattle.order_text.specs.Lines.{slices_tried}
+use Rattle.order_text.proofs.LineLemmas.{tried_more}
+use Rattle.order_text.proofs.answer.slices_tried.Goals as goal
 
 pub loop-note-preserved : goal.loop-note-preserved
 loop-note-preserved c =

@@ -1,9 +1,9 @@
 use Rattle.std.proofs.Common.{◌∙◌, List, ap, arith, length, refl}
 use Rattle.std.proofs.lemmas.Option.{slice_get_read}
-use Rattle.xousorders.specs.Endings.{looks_at}
-use Rattle.xousorders.specs.declared.endings.Look.{Look}
-use Rattle.xousorders.proofs.LineLemmas.{line_put, lines_on, no_lines}
-use Rattle.xousorders.proofs.answer.put_endings.Goals as goal
+use Rattle.order_text.specs.Endings.{looks_at}
+use Rattle.order_text.specs.declared.endings.Look.{Look}
+use Rattle.order_text.proofs.LineLemmas.{line_put, lines_on, no_lines}
+use Rattle.order_text.proofs.answer.put_endings.Goals as goal
 
 pub loop-place-init : goal.loop-place-init
 loop-place-init c = no_lines c.args.endings.now c.args.text.now.items

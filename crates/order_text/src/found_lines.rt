@@ -1,13 +1,14 @@
 //! The lines of endings as they are found.
 
 ghost use Rattle.std.specs.Prelude.{◌≡◌, ◌++◌, OnOk};
-ghost use Rattle.xousorders.specs.Lines.{fails_text, found_head, found_line};
+ghost use Rattle.order_text.specs.Lines.{fails_text, found_head, found_line};
 
 use crate::endings::Ending;
+use crate::failings::put_failing;
 use crate::failures::failing_of;
 use crate::sizes::put_size;
+use crate::text::{put, put_number};
 use order_model::Failing;
-use order_text::{put, put_failing, put_number};
 use std::alloc::AllocError;
 
 /// The number of an ending, and what is seen of it.

@@ -2,9 +2,9 @@ use Rattle.std.proofs.Common.{◌≡◌, ◌++◌, Bool, List, OnOk, [], false, 
 use Rattle.std.specs.Prelude.{◌==◌, codes, if◌then◌else◌}
 use Rattle.std.proofs.lemmas.Bool.{false_from_ne_true}
 use Rattle.std.proofs.lemmas.Bool.Decides.{Decides-eqb}
-use Rattle.xousorders.proofs.LineLemmas.{two_pieces}
-use Rattle.xousorders.specs.Lines.{counted}
-use Rattle.xousorders.proofs.sizes.put_preempted.Goals as goal
+use Rattle.order_text.proofs.LineLemmas.{two_pieces}
+use Rattle.order_text.specs.Lines.{counted}
+use Rattle.order_text.proofs.sizes.put_preempted.Goals as goal
 
 pub returns : goal.returns
 returns c =

@@ -1,19 +1,20 @@
 -- The lines of what a search found.
-use Rattle.std.specs.Prelude.{ℕ, zero, suc, ◌+◌, ◌==◌, Bool, true, false, List, [], ◌∷◌, ◌++◌, codes, decimal, filter, if◌then◌else◌, length, slice_get, Option, Some, None}
+use Rattle.std.specs.Prelude.{ℕ, zero, suc, ◌+◌, ◌==◌, Bool, true, false, List, [], ◌∷◌, ◌++◌, codes, decimal, if◌then◌else◌, Option, Some, None}
+use Rattle.std.specs.Prelude.{filter, length, map, min, slice_get, sum}
 use Rattle.std.specs.Option.{option_map_or}
 use Rattle.order_model.specs.declared.failing.Failing.{Failing}
 use Rattle.order_model.specs.declared.moves.Move.{Move}
 use Rattle.order_model.specs.declared.moves.Move.TheVariants.{Once, Preempted, Slice}
+use Rattle.order_model.specs.declared.moves.Note.{Note}
 use Rattle.order_model.specs.Orders.{preemptions_in}
 use Rattle.graph_search.specs.declared.found.Extent.{Extent}
 use Rattle.graph_search.specs.declared.found.Extent.TheVariants.{Cut, Whole}
 use Rattle.graph_search.specs.declared.found.Strategy.{Strategy}
 use Rattle.graph_search.specs.declared.found.Strategy.TheVariants.{Breadth, Depth}
 use Rattle.order_text.specs.Failings.{failing_text}
-use Rattle.xousorders.specs.Endings.{failing_of, looks_at}
-use Rattle.xousorders.specs.Failures.{is_several}
-use Rattle.xousorders.specs.declared.endings.Ending.{Ending}
-use Rattle.xousorders.specs.declared.endings.Endings.{Endings}
+use Rattle.order_text.specs.Endings.{failing_of, is_several, looks_at}
+use Rattle.order_text.specs.declared.endings.Ending.{Ending}
+use Rattle.order_text.specs.declared.endings.Endings.{Endings}
 
 -- a number with its noun
 abbrev pub counted : ℕ → List ℕ → List ℕ
@@ -36,6 +37,10 @@ level_text Depth preemptions = codes " preemptions " ++ decimal preemptions
 -- within which limits orders were searched
 abbrev pub limits_text : Option ℕ → Strategy → ℕ → List ℕ
 limits_text bound strategy preemptions = bound_text bound ++ (level_text strategy preemptions ++ codes "\n")
+
+-- how many slices were tried from the nodes that were followed; more than 64 bits hold aren't counted
+abbrev pub slices_tried : List Note → ℕ
+slices_tried notes = min (sum (map (λ note. note.slices) notes)) 18446744073709551615
 
 -- how much was searched
 abbrev pub extent_head : ℕ → ℕ → Extent → List ℕ

@@ -1,6 +1,6 @@
 use Rattle.std.proofs.Common.{◌≡◌, ◌++◌}
-use Rattle.xousorders.specs.Lines.{lines_below}
-use Rattle.xousorders.proofs.answer.put_endings.Given as goal
+use Rattle.order_text.specs.Lines.{lines_below}
+use Rattle.order_text.proofs.answer.put_endings.Given as goal
 
 -- the lines of the first endings are put
 abbrev pub invariant-loop-place : goal.invariant-loop-place

@@ -4,13 +4,13 @@ use Rattle.std.specs.Prelude.{map, min, slice_get, sum}
 use Rattle.std.specs.List.{fold}
 use Rattle.std.specs.Option.{option_map_or}
 use Rattle.std.proofs.lemmas.List.{append-nil, append_assoc}
-use Rattle.xousorders.specs.Endings.{looks_at}
+use Rattle.order_text.specs.Endings.{looks_at}
 use Rattle.order_model.specs.declared.moves.Note.{Note}
-use Rattle.xousorders.specs.Searched.{slices_tried}
+use Rattle.order_text.specs.Lines.{slices_tried}
 use Rattle.order_model.specs.declared.failing.Failing.{Failing}
-use Rattle.xousorders.specs.Lines.{ending_line, failure_at, failure_of, failures_below, found_line, found_lines, line_at, lines_below}
-use Rattle.xousorders.specs.declared.endings.Ending.{Ending}
-use Rattle.xousorders.specs.declared.endings.Endings.{Endings}
+use Rattle.order_text.specs.Lines.{ending_line, failure_at, failure_of, failures_below, found_line, found_lines, line_at, lines_below}
+use Rattle.order_text.specs.declared.endings.Ending.{Ending}
+use Rattle.order_text.specs.declared.endings.Endings.{Endings}
 
 pub no_lines : (endings : Endings) (text : List ℕ) → text ≡ text ++ lines_below 0 endings
 unfolding lines_below

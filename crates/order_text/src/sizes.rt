@@ -2,10 +2,10 @@
 
 ghost use Rattle.order_model.specs.Orders.{preemptions_in};
 ghost use Rattle.std.specs.Prelude.{◌≡◌, ◌++◌, OnOk};
-ghost use Rattle.xousorders.specs.Lines.{counted, preempted_text, size_text, slices_in};
+ghost use Rattle.order_text.specs.Lines.{counted, preempted_text, size_text, slices_in};
 
+use crate::text::{put, put_number};
 use order_model::Move;
-use order_text::{put, put_number};
 use std::alloc::AllocError;
 
 /// A number with its noun.

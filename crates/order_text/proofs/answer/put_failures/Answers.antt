@@ -1,8 +1,8 @@
 use Rattle.std.proofs.Common.{◌≡◌, ◌++◌, ◌∙◌, List, ap, arith, length, refl, sym, ℕ}
 use Rattle.std.proofs.lemmas.Option.{slice_get_read}
-use Rattle.xousorders.specs.Lines.{failures_below}
-use Rattle.xousorders.proofs.LineLemmas.{failure_there, failures_on, no_failures}
-use Rattle.xousorders.proofs.answer.put_failures.Goals as goal
+use Rattle.order_text.specs.Lines.{failures_below}
+use Rattle.order_text.proofs.LineLemmas.{failure_there, failures_on, no_failures}
+use Rattle.order_text.proofs.answer.put_failures.Goals as goal
 
 pub loop-place-init : goal.loop-place-init
 loop-place-init c = no_failures c.args.fails.now c.args.list.now c.args.text.now.items

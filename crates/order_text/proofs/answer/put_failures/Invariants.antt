@@ -1,6 +1,6 @@
 use Rattle.std.proofs.Common.{◌≡◌, ◌++◌}
-use Rattle.xousorders.specs.Lines.{failures_below}
-use Rattle.xousorders.proofs.answer.put_failures.Given as goal
+use Rattle.order_text.specs.Lines.{failures_below}
+use Rattle.order_text.proofs.answer.put_failures.Given as goal
 
 -- the lines of the first endings that fail are put
 abbrev pub invariant-loop-place : goal.invariant-loop-place

@@ -1,9 +1,9 @@
 use Rattle.std.proofs.Common.{◌≡◌, ◌++◌, OnOk, subst, sym, ℕ}
 use Rattle.std.specs.Prelude.{codes, decimal}
 use Rattle.graph_search.specs.declared.found.Strategy.{Strategy}
-use Rattle.xousorders.proofs.LineLemmas.{two_pieces}
-use Rattle.xousorders.specs.Lines.{level_text}
-use Rattle.xousorders.proofs.answer.put_level.Goals as goal
+use Rattle.order_text.proofs.LineLemmas.{two_pieces}
+use Rattle.order_text.specs.Lines.{level_text}
+use Rattle.order_text.proofs.answer.put_level.Goals as goal
 
 pub returns-in_ok-put-in-Depth : goal.returns-in_ok-put-in-Depth
 returns-in_ok-put-in-Depth c =

@@ -1,16 +1,16 @@
 //! What is told of a search.
 
 ghost use Rattle.std.specs.Prelude.{◌≡◌, ◌++◌, OnOk};
-ghost use Rattle.xousorders.specs.Lines.{bound_text, differ_text, ending_counts, ending_head, ending_line, endings_text, extent_head, extent_text};
-ghost use Rattle.xousorders.specs.Lines.{failure_line, failure_of, failures_text, level_text, limits_text};
-ghost use Rattle.xousorders.specs.Searched.{slices_tried as slices_tried_by};
+ghost use Rattle.order_text.specs.Lines.{bound_text, differ_text, ending_counts, ending_head, ending_line, endings_text, extent_head, extent_text};
+ghost use Rattle.order_text.specs.Lines.{failure_line, failure_of, failures_text, level_text, limits_text, slices_tried as slices_tried_by};
 
 use crate::endings::{Ending, Endings, count_looks};
+use crate::failings::put_failing;
 use crate::failures::{failing_of, is_several};
 use crate::sizes::{put_counted, put_size};
+use crate::text::{put, put_number};
 use graph_search::{Cut, Extent, Strategy};
 use order_model::{Failing, Move, Note};
-use order_text::{put, put_failing, put_number};
 use std::alloc::AllocError;
 
 /// How many slices were tried from the nodes with these notes.
