@@ -8,6 +8,7 @@ ghost use Rattle.xousorders.specs.Failures.{asks_failure, tells_failure};
 ghost use Rattle.xousorders.specs.Outcomes.{is_whole as is_whole_extent, number_of, outcome_of, passed as passed_of};
 ghost use Rattle.xousorders.specs.Searched.{IsStopped};
 
+use crate::view::View;
 use graph_search::{Extent, Unanswered};
 use order_model::Failing;
 use order_search::OrderFault;
@@ -96,11 +97,12 @@ fn passed(asks: bool, whole: bool) -> Outcome
 }
 
 /// How the program ends where a search so far told these endings.
-pub fn ended(fails: &[Failing<'_>], differ: bool, extent: Extent, list: &[Ending]) -> Outcome
-    ensures { result ≡ outcome_of (tells_failure fails.now differ list.now) (asks_failure fails.now differ) (is_whole_extent extent) }
+pub fn ended(view: &View<'_>, extent: Extent, list: &[Ending]) -> Outcome
+    ensures { let fails = view.now.fails.items in
+        result ≡ outcome_of (tells_failure fails view.now.differ list.now) (asks_failure fails view.now.differ) (is_whole_extent extent) }
 {
-    if tells(fails, differ, list) {
+    if tells(&view.fails, view.differ, list) {
         return Outcome::Failed;
     }
-    passed(asks(fails, differ), is_whole(extent))
+    passed(asks(&view.fails, view.differ), is_whole(extent))
 }

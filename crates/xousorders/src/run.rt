@@ -173,10 +173,6 @@ pub fn run<H: Host, F: EventFiles, K: Sink, W: Watch>(
     let Words {
         image,
         quantum,
-        steps: _,
-        states: _,
-        preemptions: _,
-        seconds: _,
         before,
         once,
         folder,
@@ -184,7 +180,7 @@ pub fn run<H: Host, F: EventFiles, K: Sink, W: Watch>(
         hex,
         fails,
         differ,
-        first: _,
+        ..
     } = words;
     let view = View {
         sights: see,
@@ -206,12 +202,7 @@ pub fn run<H: Host, F: EventFiles, K: Sink, W: Watch>(
     };
     orders_are_replayed();
     match write_orders(alloc, files, folder, &quest, &told) {
-        Ok(()) => ended(
-            &view.fails,
-            view.differ,
-            told.found.extent,
-            &told.endings.list,
-        ),
+        Ok(()) => ended(&view, told.found.extent, &told.endings.list),
         Err(status) => Outcome::Ended(status),
     }
 }

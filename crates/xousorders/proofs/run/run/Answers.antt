@@ -2,6 +2,7 @@ use Rattle.std.proofs.Common.{◌∙◌, IsSome, List, Option, inl, inr, refl, s
 use Rattle.std.specs.Cmp.Lexicographic.{slice_cmp}
 use Rattle.std.specs.Ordering.{nat_cmp}
 use Rattle.event_text.specs.Spelling.{AreAskable}
+use Rattle.order_text.specs.declared.endings.Ending.{Ending}
 use Rattle.program_status.specs.Notes.{sink_side}
 use Rattle.program_status.specs.declared.status.Status.TheVariants.{WriteFault}
 use Rattle.xk_base.specs.Outside.{Rose}
@@ -70,8 +71,8 @@ returns-in-Ok-write_orders g c =
     (subst (λ (r : Report). AreAskable r.finding.searched.orders.once.items → IsSome command.folder → AreSpelled r) (sym tells.report_is)
     c.in-Ok-write_orders.ensures.spelled))
     (c.ended.ensures
-    ∙ ((λ i. outcome_of (tells_failure (c.deref.ensures.value i) command.view.differ (c.deref-in-Ok-write_orders.ensures.value i))
-    (asks_failure (c.deref.ensures.value i) command.view.differ) (is_whole told.found.extent))
+    ∙ (ap (λ (list : List Ending). outcome_of (tells_failure command.view.fails.items command.view.differ list)
+    (asks_failure command.view.fails.items command.view.differ) (is_whole told.found.extent)) c.deref.ensures.value
     ∙ ap (outcome_in command.view) (sym tells.report_is)))
 
 pub returns : goal.returns
