@@ -1,6 +1,5 @@
 /* A store of words by key. Two threads serve it, and share its table without a lock. */
 #include "store.h"
-#include "text.h"
 
 #define PLACES 8
 #define USERS 2
@@ -10,8 +9,7 @@ struct entry {
 };
 
 static volatile struct entry table[PLACES];
-static volatile xous_word used, left;
-static volatile char *console;
+static volatile xous_word used, left, leaving[USERS];
 static char stack[4096];
 
 /* The entry of a key, which is a new one if the key has none. */
@@ -28,33 +26,25 @@ static volatile struct entry *find(xous_word key)
     return &table[place];
 }
 
-static void print_all(void)
-{
-    xous_print(console, xous_decimal(used).text);
-    xous_print(console, " keys, total ");
-    xous_print(console, xous_decimal(find(TOTAL)->value).text);
-    xous_print(console, "\n");
-}
-
 static xous_word serve(struct xous_message *message)
 {
-    volatile struct entry *entry;
+    volatile struct entry *entry = find(message->word[0]);
 
-    switch (message->id) {
-    case PUT:
-        find(message->word[0])->value = message->word[1];
-        return 0;
-    case ADD:
-        entry = find(message->word[0]);
-        return entry->value += message->word[1];
-    case GET:
-        return find(message->word[0])->value;
-    default:
-        left = left + 1;
-        if (left == USERS)
-            print_all();
-        return 0;
-    }
+    if (message->id == PUT)
+        entry->value = message->word[1];
+    return entry->value;
+}
+
+/* Keeps the tokens of messages until the last user leaves, and answers them then. */
+static void leave(xous_word token)
+{
+    xous_word place = left;
+
+    left = place + 1;
+    leaving[place] = token;
+    if (place + 1 == USERS)
+        for (place = 0; place < USERS; place++)
+            xous_need(xous_error_of(xous_return_scalar1(leaving[place], 0)));
 }
 
 static xous_word run(xous_word unused)
@@ -63,10 +53,12 @@ static xous_word run(xous_word unused)
         struct xous_message message;
 
         xous_need(xous_take_message(STORE, &message));
-        if (message.kind == XOUS_BLOCKING_SCALAR)
-            xous_need(xous_answer(&message, serve(&message)));
-        else
+        if (message.kind != XOUS_BLOCKING_SCALAR)
             xous_need(xous_dismiss(&message));
+        else if (message.id == LEAVE)
+            leave(message.token);
+        else
+            xous_need(xous_answer(&message, serve(&message)));
     }
     return unused;
 }
@@ -75,7 +67,6 @@ int main(void)
 {
     xous_word connection, thread;
 
-    xous_need(xous_open_console(&console));
     xous_need(xous_make_server(STORE, &connection));
     xous_need(xous_start_thread(run, stack + sizeof stack, 0, &thread));
     return run(0);

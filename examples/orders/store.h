@@ -6,8 +6,8 @@
 
 #define STORE XOUS_SERVER("store")
 
-/* Blocking scalars: a key and a value. LEAVE has neither; after the last user's, the store prints what it has. */
-enum request { PUT = 1, ADD = 2, GET = 3, LEAVE = 4 };
-enum key { TOTAL = 1, LEFT = 2, RIGHT = 3 };
+/* Blocking scalars: a key and, to put it there, a value. LEAVE has neither, and is answered when all users have left. */
+enum request { PUT = 1, GET = 2, LEAVE = 3 };
+enum key { LEFT = 1, RIGHT = 2 };
 
 #endif

@@ -86,7 +86,7 @@ STORIES = {
     "orders/sum.expected": ((0, 0, 1, 1), [], 1, {"end": 1}),
     "orders/lost.expected": ((0, 0, 1, 1), [], 1, {"end": 1, chart.TEXT: 1}),
     "orders/reply.expected": ((2, 2, 0, 0), [], 1, {chart.AGAIN: 1}),
-    "orders/store.expected": ((8, 8, 1, 0), [], 2, {chart.TEXT: 1}),
+    "orders/store.expected": ((6, 6, 1, 0), [], 2, {}),
     "orders/tally.expected": ((16, 14, 3, 2), ["5.2 72126-72288", "2.2 72126-72288"], 1, {"end": 2, chart.TEXT: 1}),
     "race/lose.expected": ((0, 0, 0, 0), [], 1, {chart.REFUSED: 1}),
     "race/win.expected": ((1, 1, 0, 0), [], 1, {}),

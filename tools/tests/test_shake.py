@@ -276,13 +276,13 @@ class Played(Shaken):
             self.assertEqual(set(self.endings(told)), {f'console "{sum_}"; 2 exited 0' for sum_ in (1, 2, 3)}, kind)
 
     def test_lost_key(self):
-        """The store of two threads: a key is lost, an addition is lost, and nobody prints. Each kind of schedule finds a lost key."""
+        """The store of two threads: a key is lost, or users wait for good. Each kind of schedule finds a lost key."""
         folder = self.folder / "made"
         told = self.shake(ORDERS / "store.image", "--runs", "120", "--kind", "turns", "--write", folder, status=1)
         found = self.endings(told)
-        right = 'console "3 keys, total 2\\n"; 2 waits: 2.2 receives at store, 2.3 receives at store; 3 exited 0; 4 exited 0'
+        right = 'console ""; 2 waits: 2.2 receives at store, 2.3 receives at store; 3 exited 0; 4 exited 0'
         self.assertEqual(found[right], "")
-        for part in ("3 exited 1", "4 exited 1", "total 1\\n", 'console ""'):
+        for part in ("3 exited 1", "4 exited 1", "3.2 waits, held at store; 4 waits: 4.2 waits, held at store"):
             self.assertTrue(any(part in text for text in found), (part, found))
         self.holds_files(ORDERS / "store.image", folder, told)
         for kind, runs in (("picks", 60), ("pct", 200)):
