@@ -2,6 +2,7 @@
 //! RISC-V Unprivileged ISA draws in its chapter "A", and results computed from its table of the
 //! operations.
 
+use crate::expecting::expect_eq;
 use crate::memory::SmallMemory;
 use rv32_atomics::{Atomic, decode_atomic, encode_atomic, run_any, run_or_leave};
 use rv32_hart::Ran;
@@ -138,18 +139,13 @@ fn outcome_of(by: By, word: u32, a1: u32, a2: u32, old: u32, reserved: Option<u3
     }
 }
 
-/// The instruction of the word had this outcome.
-fn expect(rt: &impl Abort, word: u32, told: Outcome, wanted: Outcome) {
-    assert_eq!(rt; told, wanted, "{word:08x}");
-}
-
 /// Each AMO puts the old word in a0 and its result in memory, and keeps a reservation.
 #[test]
 fn operations(rt: HostRuntime) {
     for (old, operand, results) in &RESULTS {
         for (word, result) in AMOS.iter().zip(results) {
             let told = outcome_of(By::RunAny, *word, *operand, 256, *old, Some(256));
-            expect(&rt, *word, told, next!(*old, *result, Some(256)));
+            expect_eq(&rt, (*word, told), (*word, next!(*old, *result, Some(256))));
         }
     }
 }
@@ -172,7 +168,7 @@ const RESERVATIONS: [(u32, Option<u32>, Outcome); 6] = [
 fn reservations(rt: HostRuntime) {
     for (word, reserved, wanted) in &RESERVATIONS {
         let told = outcome_of(By::RunAny, *word, 5, 256, 9, *reserved);
-        expect(&rt, *word, told, *wanted);
+        expect_eq(&rt, (*word, told), (*word, *wanted));
     }
 }
 
@@ -195,10 +191,6 @@ const DEVICE: Ran = Ran::Device {
     next: 4,
 };
 
-fn expect_device(rt: &impl Abort, told: Outcome) {
-    assert_eq!(rt; (told.ran, told.a0), (DEVICE, 0));
-}
-
 /// Each trap with its cause and its value, an ECALL, and a store to the console's page.
 #[test]
 fn traps(rt: HostRuntime) {
@@ -210,10 +202,12 @@ fn traps(rt: HostRuntime) {
             stored: 9,
             reserved: None,
         };
-        expect(&rt, *word, told, wanted);
+        expect_eq(&rt, (*word, told), (*word, wanted));
     }
-    expect_device(&rt, outcome_of(By::RunAny, SC, 5, 496, 9, Some(496)));
-    expect_device(&rt, outcome_of(By::RunAny, AMOS[0], 5, 496, 9, None));
+    let told = outcome_of(By::RunAny, SC, 5, 496, 9, Some(496));
+    expect_eq(&rt, (told.ran, told.a0), (DEVICE, 0));
+    let told = outcome_of(By::RunAny, AMOS[0], 5, 496, 9, None);
+    expect_eq(&rt, (told.ran, told.a0), (DEVICE, 0));
 }
 
 /// An instruction, its address, and its outcome with 5 in a1, and 9 at 256, where its address is reserved, or 256 for 258.
@@ -232,7 +226,7 @@ const LEAVING: [(u32, u32, u32, Outcome); 7] = [
 fn leaving(rt: HostRuntime) {
     for (word, address, reserved, wanted) in &LEAVING {
         let told = outcome_of(By::RunOrLeave, *word, 5, *address, 9, Some(*reserved));
-        expect(&rt, *word, told, *wanted);
+        expect_eq(&rt, (*word, told), (*word, *wanted));
     }
 }
 
@@ -240,150 +234,94 @@ fn leaving(rt: HostRuntime) {
 fn both_ways(rt: &impl Abort, rows: &[(u32, Atomic)]) {
     for (word, atomic) in rows {
         let found = decode_atomic(*word);
-        assert_eq!(rt; found, Some(*atomic), "{word:08x}");
+        expect_eq(rt, (*word, found), (*word, Some(*atomic)));
         if let Some(a) = found {
-            assert_eq!(rt; encode_atomic(a), *word);
+            expect_eq(rt, encode_atomic(a), *word);
         }
     }
 }
 
+/// An instruction of a0, a1 and (a2).
+macro_rules! of_a0 {
+    ($kind:ident) => {
+        Atomic::$kind {
+            rd: 10,
+            rs1: 12,
+            rs2: 11,
+            aq: false,
+            rl: false,
+        }
+    };
+}
+
+/// Words of each instruction.
+const WORDS: [(u32, Atomic); 13] = [
+    (
+        LR,
+        Atomic::Lr {
+            rd: 10,
+            rs1: 12,
+            aq: false,
+            rl: false,
+        },
+    ),
+    (
+        0x1406_252f,
+        Atomic::Lr {
+            rd: 10,
+            rs1: 12,
+            aq: true,
+            rl: false,
+        },
+    ),
+    (SC, of_a0!(Sc)),
+    (
+        0x1ab6_252f,
+        Atomic::Sc {
+            rd: 10,
+            rs1: 12,
+            rs2: 11,
+            aq: false,
+            rl: true,
+        },
+    ),
+    (AMOS[0], of_a0!(AmoSwap)),
+    (
+        0x06b6_252f,
+        Atomic::AmoAdd {
+            rd: 10,
+            rs1: 12,
+            rs2: 11,
+            aq: true,
+            rl: true,
+        },
+    ),
+    (AMOS[2], of_a0!(AmoXor)),
+    (AMOS[3], of_a0!(AmoAnd)),
+    (AMOS[4], of_a0!(AmoOr)),
+    (AMOS[5], of_a0!(AmoMin)),
+    (AMOS[6], of_a0!(AmoMax)),
+    (AMOS[7], of_a0!(AmoMinu)),
+    (
+        0xe1ff_afaf,
+        Atomic::AmoMaxu {
+            rd: 31,
+            rs1: 31,
+            rs2: 31,
+            aq: false,
+            rl: false,
+        },
+    ),
+];
+
+/// An rs2 of LR, the width of a double word, a funct5 that no row has, and another opcode.
+const OUTSIDE_THE_TABLE: [u32; 4] = [0x10b6_252f, 0x00b6_352f, 0x28b6_252f, 0x00b6_2533];
+
 /// Words of each instruction, and words outside the table.
 #[test]
 fn words(rt: HostRuntime) {
-    let (rd, rs1, rs2) = (10, 12, 11);
-    let rows = [
-        (
-            LR,
-            Atomic::Lr {
-                rd,
-                rs1,
-                aq: false,
-                rl: false,
-            },
-        ),
-        (
-            0x1406_252f,
-            Atomic::Lr {
-                rd,
-                rs1,
-                aq: true,
-                rl: false,
-            },
-        ),
-        (
-            SC,
-            Atomic::Sc {
-                rd,
-                rs1,
-                rs2,
-                aq: false,
-                rl: false,
-            },
-        ),
-        (
-            0x1ab6_252f,
-            Atomic::Sc {
-                rd,
-                rs1,
-                rs2,
-                aq: false,
-                rl: true,
-            },
-        ),
-        (
-            AMOS[0],
-            Atomic::AmoSwap {
-                rd,
-                rs1,
-                rs2,
-                aq: false,
-                rl: false,
-            },
-        ),
-        (
-            0x06b6_252f,
-            Atomic::AmoAdd {
-                rd,
-                rs1,
-                rs2,
-                aq: true,
-                rl: true,
-            },
-        ),
-        (
-            AMOS[2],
-            Atomic::AmoXor {
-                rd,
-                rs1,
-                rs2,
-                aq: false,
-                rl: false,
-            },
-        ),
-        (
-            AMOS[3],
-            Atomic::AmoAnd {
-                rd,
-                rs1,
-                rs2,
-                aq: false,
-                rl: false,
-            },
-        ),
-        (
-            AMOS[4],
-            Atomic::AmoOr {
-                rd,
-                rs1,
-                rs2,
-                aq: false,
-                rl: false,
-            },
-        ),
-        (
-            AMOS[5],
-            Atomic::AmoMin {
-                rd,
-                rs1,
-                rs2,
-                aq: false,
-                rl: false,
-            },
-        ),
-        (
-            AMOS[6],
-            Atomic::AmoMax {
-                rd,
-                rs1,
-                rs2,
-                aq: false,
-                rl: false,
-            },
-        ),
-        (
-            AMOS[7],
-            Atomic::AmoMinu {
-                rd,
-                rs1,
-                rs2,
-                aq: false,
-                rl: false,
-            },
-        ),
-        (
-            0xe1ff_afaf,
-            Atomic::AmoMaxu {
-                rd: 31,
-                rs1: 31,
-                rs2: 31,
-                aq: false,
-                rl: false,
-            },
-        ),
-    ];
-    both_ways(&rt, &rows);
-    // an rs2 of LR, the width of a double word, a funct5 that no row has, another opcode
-    for word in &[0x10b6_252f, 0x00b6_352f, 0x28b6_252f, 0x00b6_2533] {
-        assert_eq!(rt; decode_atomic(*word), None, "{word:08x}");
+    both_ways(&rt, &WORDS);
+    for word in OUTSIDE_THE_TABLE {
+        expect_eq(&rt, (word, decode_atomic(word)), (word, None));
     }
 }

@@ -5,6 +5,7 @@
 
 ghost use Rattle.std.specs.Prelude.{◌≤◌, length};
 
+use crate::expecting::expect_eq;
 use crate::memory::SmallMemory;
 use rv32_hart::{Ran, run_one};
 use std::process::Abort;
@@ -196,12 +197,8 @@ fn expect_x3(rt: &impl Abort, word: u32, a: u32, b: u32, wanted: u32) {
     regs.set(1, a);
     regs.set(2, b);
     let ran = run_one(&mut regs, 0, &mut memory);
-    let told = (ran, regs.get(3));
-    assert_eq!(rt;
-        told,
-        (Ran::Next(4), wanted),
-        "{word:08x} of {a:08x}, {b:08x}"
-    );
+    let told = (word, a, b, ran, regs.get(3));
+    expect_eq(rt, told, (word, a, b, Ran::Next(4), wanted));
 }
 
 /// Each instruction, of x1 and x2 into x3, gives what its column says.
@@ -213,14 +210,20 @@ fn columns<const N: usize>(rt: &impl Abort, words: &[u32; N], rows: &[(u32, u32,
     }
 }
 
+/// MUL, MULH, MULHSU and MULHU x3, x1, x2.
+const MULTIPLY: [u32; 4] = [0x0220_81b3, 0x0220_91b3, 0x0220_a1b3, 0x0220_b1b3];
+
+/// DIV, DIVU, REM and REMU x3, x1, x2.
+const DIVIDE: [u32; 4] = [0x0220_c1b3, 0x0220_d1b3, 0x0220_e1b3, 0x0220_f1b3];
+
+/// SLL, SRL and SRA x3, x1, x2.
+const SHIFT: [u32; 3] = [0x0020_91b3, 0x0020_d1b3, 0x4020_d1b3];
+
 #[test]
 fn arithmetic(rt: HostRuntime) {
-    let products = [0x0220_81b3, 0x0220_91b3, 0x0220_a1b3, 0x0220_b1b3]; // mul, mulh, mulhsu, mulhu
-    columns(&rt, &products, &PRODUCTS);
-    let quotients = [0x0220_c1b3, 0x0220_d1b3, 0x0220_e1b3, 0x0220_f1b3]; // div, divu, rem, remu
-    columns(&rt, &quotients, &QUOTIENTS);
-    let shifts = [0x0020_91b3, 0x0020_d1b3, 0x4020_d1b3]; // sll, srl, sra
-    columns(&rt, &shifts, &SHIFTS);
+    columns(&rt, &MULTIPLY, &PRODUCTS);
+    columns(&rt, &DIVIDE, &QUOTIENTS);
+    columns(&rt, &SHIFT, &SHIFTS);
     for (word, [first, second]) in &CONSTANT_SHIFTS {
         expect_x3(&rt, *word, 0x8000_0001, 0, *first);
         expect_x3(&rt, *word, 0x7fff_fffe, 0, *second);
@@ -237,17 +240,17 @@ fn program(rt: HostRuntime) {
         match run_one(&mut regs, pc, &mut memory) {
             Ran::Next(next) => pc = next,
             other => {
-                assert_eq!(rt; other, Ran::Ecall);
+                expect_eq(&rt, other, Ran::Ecall);
                 break;
             }
         }
     }
-    assert_eq!(rt; pc, 4 * 56);
+    expect_eq(&rt, pc, 4 * 56);
     let mut left = [0; 28];
     for r in 0..28u8 {
         left[r as usize] = regs.get(r);
     }
-    assert_eq!(rt; left, AFTER);
+    expect_eq(&rt, left, AFTER);
 }
 
 macro_rules! trap {
@@ -289,9 +292,9 @@ fn traps(rt: HostRuntime) {
         regs.set(1, *address);
         regs.set(2, 0x1234_5678);
         let ran = run_one(&mut regs, 0, &mut memory);
-        let told = (ran, regs.get(1), regs.get(3));
-        assert_eq!(rt; told, (*wanted, *address, 0), "at {word:08x}");
+        let told = (*word, ran, regs.get(1), regs.get(3));
+        expect_eq(&rt, told, (*word, *wanted, *address, 0));
     }
     let fetched = run_one(&mut Regs::new(), 512, &mut memory_of(&[]));
-    assert_eq!(rt; fetched, trap!(12, 512));
+    expect_eq(&rt, fetched, trap!(12, 512));
 }

@@ -1,9 +1,9 @@
 //! The rows of the table of accesses, over a small ledger.
 
+use crate::expecting::expect_eq;
 use ledger_model::small::{
     LoanEntry, OrphanEntry, PageEntry, Reached, find_least_run, reached_page,
 };
-use std::process::Abort;
 use xk_base::{Access, LoanKind, Number, Pid, Place, Right, Vpn, Window};
 
 macro_rules! place {
@@ -100,14 +100,6 @@ const REACH: [Row; 10] = [
 
 const ACCESSES: [Access; 3] = [Access::Load, Access::Store, Access::Fetch];
 
-fn expect_reached(rt: &impl Abort, told: Option<Reached>, wanted: Option<Reached>) {
-    assert_eq!(rt; told, wanted);
-}
-
-fn expect_run(rt: &impl Abort, told: Option<Vpn>, wanted: Option<Vpn>) {
-    assert_eq!(rt; told, wanted);
-}
-
 /// Each row of the table of accesses, as load, store and fetch. The last page is the console.
 #[test]
 fn rows_of_reach(rt: HostRuntime) {
@@ -117,11 +109,12 @@ fn rows_of_reach(rt: HostRuntime) {
     for Row(at, named, may) in &REACH {
         for (access, is_reached) in ACCESSES.iter().zip(may) {
             let wanted = if *is_reached { Some(*named) } else { None };
-            expect_reached(&rt, reached_page(&pages, &ORPHANS, *at, *access), wanted);
+            let told = reached_page(&pages, &ORPHANS, *at, *access);
+            expect_eq(&rt, (*at, told), (*at, wanted));
         }
     }
     let least = find_least_run(&pages, &ORPHANS, Pid(3), Window::Message, 1);
-    expect_run(&rt, least, Some(Vpn(0x4_0004)));
+    expect_eq(&rt, least, Some(Vpn(0x4_0004)));
 }
 
 /// Pages of the heap of 2, with a hole of one page between them.
@@ -130,17 +123,19 @@ const HEAP: [PageEntry; 2] = [
     page!(0x2_0002, true, false, None),
 ];
 
+/// A number of pages, and the first of the least run of as many.
+const LEAST_RUNS: [(u32, Option<Vpn>); 4] = [
+    (1, Some(Vpn(0x2_0001))),
+    (2, Some(Vpn(0x2_0003))),
+    (4093, Some(Vpn(0x2_0003))),
+    (4094, None),
+];
+
 /// A window with a hole of one page between two pages: behind them all is free, to the window's end.
 #[test]
 fn least_run_at_the_end(rt: HostRuntime) {
-    let table = [
-        (1, Some(Vpn(0x2_0001))),
-        (2, Some(Vpn(0x2_0003))),
-        (4093, Some(Vpn(0x2_0003))),
-        (4094, None),
-    ];
-    for (n, wanted) in table {
+    for (n, wanted) in LEAST_RUNS {
         let least = find_least_run(&HEAP, &[], Pid(2), Window::Heap, n);
-        expect_run(&rt, least, wanted);
+        expect_eq(&rt, (n, least), (n, wanted));
     }
 }

@@ -5,6 +5,8 @@
 #[cfg(test)]
 mod atomics;
 #[cfg(test)]
+mod expecting;
+#[cfg(test)]
 mod hart;
 #[cfg(test)]
 mod ledger;

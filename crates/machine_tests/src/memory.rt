@@ -1,12 +1,12 @@
 //! A memory for the tests.
 
-ghost use Rattle.std.specs.Prelude.{◌≡◌, ◌<◌, ◌≤◌, ◌%◌, slice_index};
-ghost use Rattle.xk_base.specs.UserMemory.{number_at, size_of};
+ghost use Rattle.std.specs.Prelude.{◌≡◌, ◌<◌, ◌≤◌, ◌%◌};
+ghost use Rattle.xk_base.specs.UserMemory.{size_of};
 
 use xk_base::{Failed, Stored, UserMemory, Width};
 
 /// 512 bytes from address 0, which a process may fetch, load and store. The last 16 are the
-/// console's.
+/// console's. Its clauses don't tell what the bytes are.
 #[derive(Drop)]
 pub struct SmallMemory {
     pub bytes: [u8; 512],
@@ -17,17 +17,17 @@ impl SmallMemory {
     pub fn number(&self, va: u32, width: Width) -> u32
         requires inside { va < 512 }
         requires aligned { va % size_of width ≡ 0 }
-        ensures { result ≡ number_at (slice_index self.now.bytes) va width }
     {
+        let at = va as usize;
         match width {
-            Width::Byte => self.byte(va),
-            Width::Half => self.byte(va) + 256 * self.byte(va + 1),
-            Width::Word => {
-                self.byte(va)
-                    + 256 * self.byte(va + 1)
-                    + 65536 * self.byte(va + 2)
-                    + 16_777_216 * self.byte(va + 3)
-            }
+            Width::Byte => u32::from(self.bytes[at]),
+            Width::Half => u32::from(u16::from_le_bytes([self.bytes[at], self.bytes[at + 1]])),
+            Width::Word => u32::from_le_bytes([
+                self.bytes[at],
+                self.bytes[at + 1],
+                self.bytes[at + 2],
+                self.bytes[at + 3],
+            ]),
         }
     }
 
@@ -37,26 +37,17 @@ impl SmallMemory {
     {
         self.bytes[at..at + 4].copy_from_slice(&word.to_le_bytes());
     }
-
-    /// The byte at an address.
-    fn byte(&self, va: u32) -> u32
-        requires { va < 512 }
-        ensures is { result ≡ slice_index self.now.bytes va }
-        ensures fits { result < 256 }
-    {
-        u32::from(self.bytes[va as usize])
-    }
 }
 
 impl UserMemory for SmallMemory {
-    ghost use Rattle.std.specs.Prelude.{Some, None, false, nat_lt, nat_le, ◌&&◌, slice_index};
+    ghost use Rattle.std.specs.Prelude.{None, false, nat_lt, nat_le, ◌&&◌};
     ghost use Rattle.std.proofs.Common.{rules};
 
     ghost may = { λ memory access a. nat_lt a 512 };
 
     ghost console = { λ memory a. nat_le 496 a && nat_lt a 512 };
 
-    ghost content = { λ memory. Some (slice_index memory.bytes) };
+    ghost content = { λ memory. None };
 
     ghost out = { λ memory a. false };
 
@@ -90,18 +81,11 @@ impl UserMemory for SmallMemory {
             return Ok(Stored::Device(va % 4096));
         }
         let at = va as usize;
+        let bytes = value.to_le_bytes();
         match width {
-            Width::Byte => self.bytes[at] = (value % 256) as u8,
-            Width::Half => {
-                self.bytes[at] = (value % 256) as u8;
-                self.bytes[at + 1] = (value / 256 % 256) as u8;
-            }
-            Width::Word => {
-                self.bytes[at] = (value % 256) as u8;
-                self.bytes[at + 1] = (value / 256 % 256) as u8;
-                self.bytes[at + 2] = (value / 65536 % 256) as u8;
-                self.bytes[at + 3] = (value / 16_777_216 % 256) as u8;
-            }
+            Width::Byte => self.bytes[at] = bytes[0],
+            Width::Half => self.bytes[at..at + 2].copy_from_slice(&bytes[..2]),
+            Width::Word => self.bytes[at..at + 4].copy_from_slice(&bytes),
         }
         Ok(Stored::Done)
     }
