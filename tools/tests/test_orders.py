@@ -341,6 +341,25 @@ def checks_of_toy():
             yield found.read(lines) == searched, f"a toy searched {words}: its lines are read"
 
 
+# Which events come at a state where interrupt 3 is claimed, process 2 is alive and process 3 isn't.
+COMING = (
+    ("--irq 3 --irq 4 --kill 2 --kill 3 --kill 4", None, ["irq 3", "kill 2"]),
+    ("--irq 3 --irq 4 --kill 2 --kill 3 --kill 4", (2, 2, 65536), ["irq 3", "irq 4", "kill 2", "kill 3", "kill 4"]),
+    ("--kill 2 --irq 3 --irq 3 --kill 2", None, ["irq 3", "kill 2"]),
+    ("--irq 4 --irq 4", (2, 2, 65536), ["irq 4"]),
+)
+
+
+def checks_of_coming():
+    """The first of equal events comes, if it can do something."""
+    processes = {2: SimpleNamespace(alive=True), 3: SimpleNamespace(alive=False)}
+    for words, reserved, wanted in COMING:
+        asked = asked_of(parser().parse_args(f"xousim --search image {words}".split()))
+        machine = SimpleNamespace(reserved=reserved, claims=[SimpleNamespace(number=3)], process=processes.get)
+        coming = [event.text() for event in orders.coming(orders.Node([], 0, b"", asked.once, {}, machine))]
+        yield coming == wanted, f"of {words} come {coming}"
+
+
 # A toy with preemptions: each of two threads adds one to a total in one slice of two steps, of which the first loads it. What is seen is
 # the total, when both have ended.
 
@@ -544,8 +563,9 @@ CALLS = (
     (f"{LOST} --steps 5", 0, r"states 11 slices 11 whole", ""),
     (f"{TIMER} --steps 50", 0, r"states \d+ slices \d+ (whole|cut) within 50 steps", ""),
     (f"{TIMER} --states 50", 0, r"states \d+ slices \d+ (whole|cut) within 100000 steps", ""),
-    (f"{LOST} --kill 2", 0, r"states \d+ slices \d+ whole", ""),
-    (f"{LOST} --irq 3", 0, r"states \d+ slices \d+ whole", ""),
+    (f"{LOST} --kill 2", 0, r"states 13 slices 11 whole", ""),
+    (f"{LOST} --kill 2 --kill 2", 0, r"states 13 slices 11 whole", ""),
+    (f"{LOST} --irq 3 --kill 9", 0, r"states 11 slices 11 whole", ""),
 )
 FILES = {"bad.events": b"tick 1\nnothing\n", "empty.events": b"", "good.events": b"tick 2"}
 
@@ -587,6 +607,9 @@ class Orders(Case):
 
     def test_toy(self):
         self.hold(checks_of_toy())
+
+    def test_coming(self):
+        self.hold(checks_of_coming())
 
     def test_preemptions(self):
         self.hold(checks_of_preemptions())

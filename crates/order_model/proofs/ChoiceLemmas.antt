@@ -1,17 +1,20 @@
 -- What may come next, as it is told.
 use Rattle.std.proofs.Common.{◌≡◌, ◌≤◌, ◌+◌, ℕ, zero, suc, Bool, true, false, List, [], ◌∷◌, ◌++◌, Option, Some, None, is_some, refl, sym, ap, subst, ◌∙◌, append_assoc, arith}
-use Rattle.std.specs.Prelude.{◌||◌, ◌==◌, length, not, map, nat_lt, slice_get, if◌then◌else◌}
+use Rattle.std.specs.Prelude.{◌&&◌, ◌||◌, ◌==◌, length, not, map, nat_lt, slice_get, if◌then◌else◌}
 use Rattle.std.specs.Option.{option_and_then}
 use Rattle.std.proofs.lemmas.Bool.{ne_eqb}
 use Rattle.std.proofs.lemmas.List.{map-append}
 use Rattle.std.proofs.lemmas.Option.{none-some}
 use Rattle.xk_base.specs.declared.events.Event.{Event}
+use Rattle.xk_base.specs.declared.events.Event.TheVariants.{Irq as IrqEvent, Kill, Pick, Tick}
+use Rattle.xk_base.specs.declared.ids.Pid.{Pid}
 use Rattle.xk_base.specs.declared.limits.TheConstants.{TIMER_INTERRUPT}
 use Rattle.xk_base.specs.Tables.Counting.{listed_below}
 use Rattle.xk_base.specs.declared.ids.ThreadId.{ThreadId}
 use Rattle.machine_model.specs.State.Machine.{Machine}
 use Rattle.order_model.specs.Endings.{are_none, is_ending, ready_ids, turns_at}
-use Rattle.order_model.specs.Moves.{Asked, Point, is_at_bound, what_comes}
+use Rattle.order_model.specs.Moves.{Asked, Point, is_at_bound, is_idle, waits_before, what_comes}
+use Rattle.order_model.proofs.Moving.IdleLemmas.{left_of, waits_there}
 use Rattle.order_model.specs.Nodes.{goes_on}
 use Rattle.order_model.specs.declared.choices.Choice.{Choice}
 use Rattle.order_model.specs.Asking.{bound_of}
@@ -32,13 +35,57 @@ module _ (asked : Asked) (p : Point) (k : ℕ) where
   abbrev comes_in : Option Event → Bool
   comes_in o = is_some (option_and_then (λ (event : Event). what_comes event p.state) o)
 
+  abbrev comes_among : Option Event → Bool
+  comes_among o = comes_in (left_of asked k p o)
+
   -- one that came doesn't come again
   pub came_once : p.came k ≡ true → comes_at asked p k ≡ false
-  came_once e = ap (λ (b : Bool). comes_in (if b then None else slice_get asked.once k)) e
+  came_once e = ap (λ (b : Bool). comes_among (if b then None else slice_get asked.once k)) e
 
-  -- another comes where it comes by itself
-  pub comes_if : (event : Event) → slice_get asked.once k ≡ Some event → p.came k ≡ false → comes_at asked p k ≡ is_some (what_comes event p.state)
-  comes_if event is e = ap (λ (b : Bool). comes_in (if b then None else slice_get asked.once k)) e ∙ ap comes_in is
+  module _ (event : Event) (is : slice_get asked.once k ≡ Some event) (free : p.came k ≡ false) where
+    there : comes_at asked p k ≡ comes_among (Some event)
+    there = ap comes_among (waits_there asked k p event free is)
+
+    -- another doesn't come before an equal one, ..
+    pub comes_later : waits_before asked event p k ≡ true → comes_at asked p k ≡ false
+    comes_later e = there ∙ ap (λ (b : Bool). comes_in (if b || is_idle event p.state then None else Some event)) e
+
+    -- .. or where it is idle, ..
+    pub comes_idle : waits_before asked event p k ≡ false → is_idle event p.state ≡ true → comes_at asked p k ≡ false
+    comes_idle first e = there ∙ (λ i. comes_in (if first i || e i then None else Some event))
+
+    -- .. and else where it comes by itself
+    pub comes_if : waits_before asked event p k ≡ false → is_idle event p.state ≡ false → comes_at asked p k ≡ is_some (what_comes event p.state)
+    comes_if first busy = there ∙ (λ i. comes_in (if first i || busy i then None else Some event))
+
+-- ---- idle events
+
+and_no : (b : Bool) → (b && false) ≡ false
+and_no true = refl
+and_no false = refl
+
+and_yes : (b : Bool) → (b && true) ≡ b
+and_yes true = refl
+and_yes false = refl
+
+-- with a reservation none is idle
+pub reserved_busy : (event : Event) (m : Machine) → is_some m.reserved ≡ true → is_idle event m ≡ false
+reserved_busy (Tick n) m e = refl
+reserved_busy (Pick pid tid) m e = refl
+reserved_busy (IrqEvent k) m e = ap (λ b. not (is_some (m.claims k)) && not b) e ∙ and_no (not (is_some (m.claims k)))
+reserved_busy (Kill pid) m e = ap (λ b. not (m.process pid.0).alive && not b) e ∙ and_no (not (m.process pid.0).alive)
+
+-- without one it is told by the claim of the interrupt ..
+pub irq_idle : (event : Event) (m : Machine) (k : ℕ) (claimed : Bool) → event ≡ IrqEvent k → claimed ≡ is_some (m.claims k)
+    → is_some m.reserved ≡ false → not claimed ≡ is_idle event m
+irq_idle event m k claimed is told none =
+    sym (and_yes (not claimed)) ∙ ((λ i. not (told i) && not (sym none i)) ∙ sym (ap (λ x. is_idle x m) is))
+
+-- .. or by the process
+pub kill_idle : (event : Event) (m : Machine) (pid : Pid) (alive : Bool) → event ≡ Kill pid → alive ≡ (m.process pid.0).alive
+    → is_some m.reserved ≡ false → not alive ≡ is_idle event m
+kill_idle event m pid alive is told none =
+    sym (and_yes (not alive)) ∙ ((λ i. not (told i) && not (sym none i)) ∙ sym (ap (λ x. is_idle x m) is))
 
 -- the choice of the next number is added where it passes
 pub next_listed : (f : ℕ → Choice) (test : ℕ → Bool) (k : ℕ) (before now more : List Choice) → now ≡ before ++ map f (listed_below k test)

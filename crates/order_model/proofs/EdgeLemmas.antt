@@ -13,7 +13,7 @@ use Rattle.machine_model.specs.State.Order.{is_ready, ready_at}
 use Rattle.order_model.specs.declared.moves.Move.{Move}
 use Rattle.order_model.specs.declared.moves.Move.TheVariants.{Once, Preempted, Slice}
 use Rattle.order_model.specs.Endings.{ready_ids, turns_at}
-use Rattle.order_model.specs.Moves.{Asked, Point, is_at_bound, leads, may_come, what_comes}
+use Rattle.order_model.specs.Moves.{Asked, Point, is_at_bound, leads, what_comes}
 use Rattle.order_model.specs.Nodes.{after, goes_on, node_of}
 use Rattle.order_model.proofs.Moving.NodeLemmas.{nodes_lead_alike}
 use Rattle.order_model.specs.declared.choices.Choice.{Choice}
@@ -59,9 +59,8 @@ module _ (asked : Asked) (p : Point) (matched : Matched p.state) where
   choice_listed (Once number) next is =
       let may = may_come_there asked p number (ap is_some is) in
       let within : number < length asked.once = slice_get_within asked.once number may.event may.its in
-      let at : may_come asked number p ≡ Some may.event =
-      ap (λ (b : Bool). if b then None else slice_get asked.once number) may.free ∙ may.its in
-      let comes : comes_at asked p number ≡ true = ap (λ o. is_some (option_and_then (λ event. what_comes event p.state) o)) at ∙ may.comes in
+      let comes : comes_at asked p number ≡ true =
+      ap (λ o. is_some (option_and_then (λ event. what_comes event p.state) o)) may.at ∙ may.comes in
       Contains-append_left (choices_at asked p) (preemptions_at asked p) (Comes number)
       (Contains-append_right (map Goes (turns_at asked p.state)) (map Comes (events_at asked p)) (Comes number)
       (contains_map Comes (events_at asked p) number (listed_below-contains (length asked.once) number (comes_at asked p) within comes)))

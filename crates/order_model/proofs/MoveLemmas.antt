@@ -15,6 +15,7 @@ use Rattle.order_model.specs.declared.moves.Move.TheVariants.{Once, Preempted, S
 use Rattle.order_model.specs.Moves.{Asked, Point, behind, is_at_bound, is_preempted, is_slice, leads, may_come, may_preempt, slice_at}
 use Rattle.order_model.specs.Moves.{what_comes, with_come, with_preemption}
 use Rattle.order_model.specs.Asking.{came_of}
+use Rattle.order_model.proofs.Moving.IdleLemmas.{may_come_now}
 
 -- ---- tests
 
@@ -128,27 +129,23 @@ module _ (asked : Asked) (p : Point) (k : ℕ) where
   abbrev pub led : Option Event → Option Point
   led o = option_map (λ done. with_come k (behind asked p done)) (option_and_then (λ event. what_comes event p.state) o)
 
-  -- it is one of the events that may come, and hasn't come
+  -- it is one of the events, and may come
   pub record MayCome : Type 0 where
     pub event : Event
+    pub at : may_come asked k p ≡ Some event
     pub its : slice_get asked.once k ≡ Some event
-    pub free : p.came k ≡ false
     pub comes : is_some (what_comes event p.state) ≡ true
 
   pub may_come_there : IsSome (leads asked p (Once k)) → MayCome
   unfolding leads
-  may_come_there h = go (p.came k) (slice_get asked.once k) refl refl
+  may_come_there h = go (may_come asked k p) refl
     where
-      go : (b : Bool) (o : Option Event) → p.came k ≡ b → slice_get asked.once k ≡ o → MayCome
-      go true o e is = absurd (false≢true (sym (ap (λ (b : Bool). is_some (led (if b then None else slice_get asked.once k))) e) ∙ h))
-      go false None e is =
-          let at : may_come asked k p ≡ None = ap (λ (b : Bool). if b then None else slice_get asked.once k) e ∙ is in
-          absurd (false≢true (sym (ap (λ o. is_some (led o)) at) ∙ h))
-      go false (Some event) e is =
-          let at : may_come asked k p ≡ Some event = ap (λ (b : Bool). if b then None else slice_get asked.once k) e ∙ is in
+      go : (o : Option Event) → may_come asked k p ≡ o → MayCome
+      go None at = absurd (false≢true (sym (ap (λ o. is_some (led o)) at) ∙ h))
+      go (Some event) at =
           record {
             event = event;
-            its = is;
-            free = e;
+            at = at;
+            its = (may_come_now asked k p event at).its;
             comes = some_mapped (λ done. with_come k (behind asked p done)) (what_comes event p.state) (sym (ap (λ o. is_some (led o)) at) ∙ h);
           }

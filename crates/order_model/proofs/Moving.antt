@@ -1,5 +1,7 @@
 pub mod CountLemmas
 pub mod EventLemmas
+pub mod FreeLemmas
+pub mod IdleLemmas
 pub mod NodeLemmas
 pub mod PathLemmas
 pub mod PlayLemmas

@@ -5,6 +5,7 @@ pub mod Edges
 pub mod Endings
 pub mod Exits
 pub mod Failing
+pub mod Freely
 pub mod Moves
 pub mod Nodes
 pub mod Orders

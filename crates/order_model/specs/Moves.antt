@@ -1,6 +1,6 @@
 -- Moves of an order: a slice of a Ready thread, such a slice that is preempted, or an event that may come once. What they make of a
 -- state with what came before it, and the events that play them.
-use Rattle.std.specs.Prelude.{ℕ, ◌+◌, ◌-◌, ◌==◌, ◌&&◌, min, nat_eq, nat_lt, Bool, true, false, not, List, [], ◌∷◌, ◌++◌, slice_get, if◌then◌else◌, Option, Some, None}
+use Rattle.std.specs.Prelude.{ℕ, ◌+◌, ◌-◌, ◌==◌, ◌&&◌, ◌||◌, min, nat_eq, nat_lt, Bool, true, false, not, List, [], ◌∷◌, ◌++◌, slice_get, if◌then◌else◌, Option, Some, None, is_some}
 use Rattle.std.specs.List.{flat_map}
 use Rattle.std.specs.Option.{option_and_then, option_map, option_map_or}
 use Rattle.xk_base.specs.declared.events.Event.{Event}
@@ -9,7 +9,7 @@ use Rattle.xk_base.specs.declared.ids.ThreadId.{ThreadId}
 use Rattle.xk_base.specs.declared.records.Rec.{Rec}
 use Rattle.xk_base.specs.declared.records.What.{What}
 use Rattle.xk_base.specs.declared.records.What.TheVariants.{Byte, Call, End, Fault, Gone, Irq, Reply, Retry}
-use Rattle.xk_base.specs.Tables.Counting.{put_at}
+use Rattle.xk_base.specs.Tables.Counting.{least_below, put_at}
 use Rattle.machine_model.specs.State.Machine.{Machine}
 use Rattle.machine_model.specs.State.Order.{ready_at}
 use Rattle.machine_model.specs.Stepping.Events.{killed, raised}
@@ -102,9 +102,37 @@ what_comes (Pick pid tid) m = None
 what_comes (IrqEvent k) m = Some (raised k m)
 what_comes (Kill pid) m = Some (killed pid m)
 
--- the event that may come still
+-- **An idle event** can do nothing: nobody claims the interrupt, or the process isn't alive, and there is no reservation that it would end.
+abbrev pub is_idle : Event → Machine → Bool
+is_idle (Tick n) m = false
+is_idle (Pick pid tid) m = false
+is_idle (IrqEvent k) m = not (is_some (m.claims k)) && not (is_some m.reserved)
+is_idle (Kill pid) m = not (m.process pid.0).alive && not (is_some m.reserved)
+
+-- two events are equal
+abbrev pub same_event : Event → Event → Bool
+same_event (Tick n) (Tick k) = n == k
+same_event (Pick pid tid) (Pick other of_other) = (pid.0 == other.0) && (tid.0 == of_other.0)
+same_event (IrqEvent n) (IrqEvent k) = n == k
+same_event (Kill pid) (Kill other) = pid.0 == other.0
+same_event _ _ = false
+
+-- the event of that number, if it hasn't come
+abbrev pub waiting : Asked → ℕ → Point → Option Event
+waiting asked k p = if p.came k then None else slice_get asked.once k
+
+-- .. is equal to this one
+abbrev pub waits_at : Asked → Event → Point → ℕ → Bool
+waits_at asked event p k = option_map_or (same_event event) (waiting asked k p) false
+
+-- an event that is equal to it, of a number below this one, hasn't come
+abbrev pub waits_before : Asked → Event → Point → ℕ → Bool
+waits_before asked event p k = is_some (least_below k (waits_at asked event p))
+
+-- **The event that may come**: it hasn't come, no equal one of a lower number is to come still, and it isn't idle.
 abbrev pub may_come : Asked → ℕ → Point → Option Event
-may_come asked k p = if p.came k then None else slice_get asked.once k
+may_come asked k p =
+    option_and_then (λ event. if waits_before asked event p k || is_idle event p.state then None else Some event) (waiting asked k p)
 
 -- ---- moves
 

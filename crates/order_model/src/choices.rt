@@ -1,23 +1,24 @@
 //! What may come next at a state.
 
-ghost use Rattle.std.specs.Prelude.{◌≡◌, ◌<◌, ◌≤◌, ◌^◌, ◌++◌, ◌∷◌, [], ℕ, Err, IfOk, List, OnOk, Some, false, if◌then◌else◌, is_some, length, map, slice_get};
+ghost use Rattle.std.specs.Prelude.{◌≡◌, ◌<◌, ◌≤◌, ◌^◌, ◌++◌, ◌∷◌, [], ℕ, Err, IfOk, List, OnOk, Some, false, if◌then◌else◌, length, map};
 ghost use Rattle.machine_model.specs.State.Machine.{Machine};
 ghost use Rattle.order_model.specs.Endings.{turns_at};
-ghost use Rattle.order_model.specs.Moves.{Asked, Point, what_comes};
+ghost use Rattle.order_model.specs.Moves.{Asked, Point};
 ghost use Rattle.order_model.specs.Nodes.{goes_on};
 ghost use Rattle.order_model.specs.Searches.{note_of as note_of_state};
-ghost use Rattle.order_model.specs.Asking.{asked_of, bound_of, came_of};
+ghost use Rattle.order_model.specs.Asking.{asked_of, bound_of};
 ghost use Rattle.order_model.specs.Choosing.{IsSeen, IsStand, comes_at, events_at, preemptions_of};
 ghost use Rattle.snapshot_rows.specs.Machines.{machine_of};
 ghost use Rattle.order_model.specs.declared.choices.Choice.TheVariants.{Comes, Goes};
 ghost use Rattle.xk_base.specs.declared.limits.TheConstants.{PROCESS_LIMIT};
 
+use crate::coming::may_come;
 use crate::moves::Note;
 use crate::orders::{Orders, Trail};
 use crate::turns::{has_timer, ready_ids};
 use snapshot_rows::State;
 use std::alloc::{AllocError, Global};
-use xk_base::{Event, ThreadId};
+use xk_base::ThreadId;
 
 /// What may come next: a slice of this thread, that slice preempted after so many steps, or the event of this number.
 #[derive(Clone, Copy, Debug, PartialEq, Eq)]
@@ -41,16 +42,6 @@ pub enum Unseen {
     Timer,
 }
 
-/// Whether the event may come by itself, as ticks and picks don't.
-fn comes_itself(event: Event) -> bool
-    ensures { (m : Machine) → result ≡ is_some (what_comes event m) }
-{
-    match event {
-        Event::Irq(_) | Event::Kill(_) => true,
-        Event::Tick(_) | Event::Pick(_, _) => false,
-    }
-}
-
 /// These threads are added to the choices.
 fn add_turns(choices: &mut Vec<Choice>, ids: &[ThreadId]) -> Result<(), AllocError>
     ensures { OnOk result (choices.new.items ≡ choices.old.items ++ map Goes ids.now) }
@@ -61,38 +52,20 @@ fn add_turns(choices: &mut Vec<Choice>, ids: &[ThreadId]) -> Result<(), AllocErr
     Ok(())
 }
 
-/// Whether the event of this number came.
-fn has_come(came: &[bool], number: u32) -> bool
-    requires { number < length came.now }
-    ensures { result ≡ came_of came.now number }
-{
-    came[number as usize]
-}
-
-/// The event of this number.
-fn event_at(orders: &Orders, number: u32) -> Event
-    requires { number < length orders.now.once.items }
-    ensures { slice_get orders.now.once.items number ≡ Some result }
-{
-    orders.once[number as usize]
-}
-
 /// The event of this number is added, where it may come.
 fn add_event(
     choices: &mut Vec<Choice>,
     orders: &Orders,
-    came: &[bool],
+    state: &State,
+    trail: &Trail,
     number: u32,
 ) -> Result<(), AllocError>
     requires number { number < length orders.now.once.items }
-    requires came { length came.now ≡ length orders.now.once.items }
-    ensures { (p : Point) → ((k : ℕ) → came_of came.now k ≡ p.came k) → OnOk result
+    requires came { length trail.now.came.items ≡ length orders.now.once.items }
+    ensures { (p : Point) → IsStand p state.now trail.now → OnOk result
         (choices.new.items ≡ choices.old.items ++ (if comes_at (asked_of orders.now) p number then Comes number ∷ [] else [])) }
 {
-    if has_come(came, number) {
-        return Ok(());
-    }
-    if !comes_itself(event_at(orders, number)) {
+    if !may_come(orders, state, trail, number) {
         return Ok(());
     }
     choices.push(Choice::Comes(number))?;
@@ -100,14 +73,19 @@ fn add_event(
 }
 
 /// The events that may come are added.
-fn add_events(choices: &mut Vec<Choice>, orders: &Orders, came: &[bool]) -> Result<(), AllocError>
+fn add_events(
+    choices: &mut Vec<Choice>,
+    orders: &Orders,
+    state: &State,
+    trail: &Trail,
+) -> Result<(), AllocError>
     requires few { length orders.now.once.items < 2 ^ 32 }
-    requires came { length came.now ≡ length orders.now.once.items }
-    ensures { (p : Point) → ((k : ℕ) → came_of came.now k ≡ p.came k) → OnOk result
+    requires came { length trail.now.came.items ≡ length orders.now.once.items }
+    ensures { (p : Point) → IsStand p state.now trail.now → OnOk result
         (choices.new.items ≡ choices.old.items ++ map Comes (events_at (asked_of orders.now) p)) }
 {
     for number in 0..orders.once.len() as u32 {
-        add_event(choices, orders, came, number)?;
+        add_event(choices, orders, state, trail, number)?;
     }
     Ok(())
 }
@@ -154,7 +132,7 @@ pub fn see(alloc: Global, orders: &Orders, state: &State, trail: &Trail) -> Resu
     let Ok(()) = add_turns(&mut choices, &ids) else {
         return Err(Unseen::Memory);
     };
-    let Ok(()) = add_events(&mut choices, orders, &trail.came) else {
+    let Ok(()) = add_events(&mut choices, orders, state, trail) else {
         return Err(Unseen::Memory);
     };
     Ok(Sight { choices, note })

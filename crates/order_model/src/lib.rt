@@ -3,8 +3,10 @@
 #![tactic(auto)]
 
 mod choices;
+mod coming;
 mod exits;
 mod failing;
+mod freely;
 mod moves;
 mod nodes;
 mod orders;
@@ -15,6 +17,7 @@ mod turns;
 pub use choices::{Choice, Sight, Unseen, add_preemptions, see};
 pub use exits::{Ended, Exit, exit_in, push_ends};
 pub use failing::{Failing, Waiter, fails, first_failing};
+pub use freely::{free_orders_are_orders, free_orders_are_told, idle_events_do_nothing};
 pub use moves::{Move, Note};
 pub use nodes::{
     few_preemptions_are_allowed, nodes_are_seen_alike, nodes_lead_alike, orders_are_paths,

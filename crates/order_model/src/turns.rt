@@ -71,7 +71,7 @@ pub fn has_timer(state: &State) -> bool
 }
 
 /// Whether there is a claim of this number.
-fn is_claimed(claims: &[ClaimRow], number: u32) -> bool
+pub(crate) fn is_claimed(claims: &[ClaimRow], number: u32) -> bool
     ensures { result ≡ list_any (λ c. c.number == number) claims.now }
 {
     claims.iter().any(|claim| claim.number == number)

@@ -95,7 +95,7 @@ module _ (asked : Asked) (p : Point) (k : ℕ) where
   unfolding leads
   once_leads event done is done_is h =
       let may = may_come_there asked p k h in
-      let at : may_come asked k p ≡ Some event = ap (λ (b : Bool). if b then None else slice_get asked.once k) may.free ∙ is in
+      let at : may_come asked k p ≡ Some event = may.at ∙ (sym may.its ∙ is) in
       let there : is_some (what_comes event p.state) ≡ true =
       some_mapped (λ done. with_come k (behind asked p done)) (what_comes event p.state) (sym (ap (λ o. is_some (led asked p k o)) at) ∙ h) in
       ap (led asked p k) at ∙ (ap (option_map (λ done. with_come k (behind asked p done))) (comes_done event p.state there)

@@ -8,6 +8,8 @@ nobody is ready, or where steps count and are at their bound.
 A slice is *preempted* if it stops sooner, after any of its steps but the last. With preemptions there is a search for each number of
 them, from none on, whose orders have so many at most.
 
+An event comes at most once. It doesn't come where it can do nothing, nor while an equal one that was named before it hasn't come.
+
 Steps count in all nodes or in none: two orders that lead to one node may have done other numbers of steps, and who claims the
 timer's interrupt there can read them. So a search is made anew, with a bound of steps, where it comes to a state in which somebody has.
 
@@ -75,6 +77,23 @@ class TimerClaimed(Exception):
 
 def has_timer(machine):
     return any(claim.number == TIMER_INTERRUPT for claim in machine.claims)
+
+
+def is_idle(event, machine):
+    """Whether the event can do nothing: nobody claims the interrupt, or the process isn't alive, and no address is reserved."""
+    if machine.reserved is not None:
+        return False
+    (number,) = event.numbers
+    if event.name == "irq":
+        return all(claim.number != number for claim in machine.claims)
+    process = machine.process(number)
+    return process is None or not process.alive
+
+
+def coming(node):
+    """The events that may come: the first of equal ones, if it isn't idle."""
+    firsts = [event for place, event in enumerate(node.once) if event not in node.once[:place]]
+    return [event for event in firsts if not is_idle(event, node.machine)]
 
 
 def key_of(node, counts):
@@ -188,7 +207,7 @@ class Search:
         ready = [] if self.is_ending(node) else node.machine.ready()
         self.slices += len(ready)
         jobs = [pool.submit(self.slices_of, node, who) for who in ready]
-        return jobs + [pool.submit(self.after_event, node, event) for event in node.once]
+        return jobs + [pool.submit(self.after_event, node, event) for event in coming(node)]
 
     def search(self):
         """This search, or where it comes to need one that counts steps, that one."""

@@ -1,7 +1,7 @@
 -- Points of one node have the same moves.
 use Rattle.std.proofs.Common.{◌≡◌, ℕ, ◌+◌, Bool, true, false, List, ◌++◌, Option, Some, None, is_some, refl, sym, ap, subst, ◌∙◌}
 use Rattle.std.specs.Bool.{⊤}
-use Rattle.std.specs.Prelude.{◌==◌, ◌&&◌, not, nat_lt, if◌then◌else◌}
+use Rattle.std.specs.Prelude.{◌==◌, ◌&&◌, ◌||◌, not, nat_lt, if◌then◌else◌}
 use Rattle.std.specs.Option.{option_and_then, option_map}
 use Rattle.std.proofs.lemmas.Bool.{false≢true}
 use Rattle.xk_base.specs.declared.events.Event.{Event}
@@ -23,10 +23,11 @@ use Rattle.order_model.specs.declared.moves.Move.TheVariants.{Once, Preempted, S
 use Rattle.order_model.specs.Counts.{slice_from, with_count}
 use Rattle.order_model.specs.Exits.{exits_on}
 use Rattle.order_model.specs.Moves.{Asked, Bound, Point, Unbounded, UpTo, behind, leads, may_come, may_preempt, most_within, what_comes}
-use Rattle.order_model.specs.Moves.{with_come, with_preemption}
+use Rattle.order_model.specs.Moves.{waiting, waits_before, with_come, with_preemption}
 use Rattle.order_model.specs.Nodes.{NodesLeadAlike, after, goes_on, node_of, set_aside}
 use Rattle.order_model.proofs.Counting.SliceLemmas.{slice_forgets}
 use Rattle.order_model.proofs.Moving.EventLemmas.{IsAside, killed_aside, raised_aside, same_bytes, same_ends, whats_numbered}
+use Rattle.order_model.proofs.Moving.IdleLemmas.{idle_aside}
 
 -- the count of steps that a node leaves in a state
 abbrev count_in : Bound → Machine → ℕ
@@ -185,11 +186,19 @@ module _ (quantum : ℕ) (once : List Event) (exits : Bool) (preemptions : ℕ) 
   event_leads (UpTo bound) k p (Kill pid) =
       come_alike (UpTo bound) k p (killed pid (set_aside (UpTo bound) p.state)) (killed pid p.state) (killed_aside (id_at 0) p.state.steps pid p.state) (killed_count (UpTo bound) pid p)
 
+  comes_alike : (bound : Bound) (p : Point) (k : ℕ) → may_come (asks bound) k (node_of (asks bound) p) ≡ may_come (asks bound) k p
+  comes_alike bound p k = λ i. option_and_then
+      (λ (event : Event). if waits_before (asks bound) event p k || idle_aside bound event p.state i then None else Some event)
+      (waiting (asks bound) k p)
+
   once_leads : (bound : Bound) (p : Point) (k : ℕ)
       → option_map (node_of (asks bound)) (leads (asks bound) (node_of (asks bound) p) (Once k))
       ≡ option_map (node_of (asks bound)) (leads (asks bound) p (Once k))
   unfolding leads
-  once_leads bound p k = go (may_come (asks bound) k p)
+  once_leads bound p k =
+      ap (λ o. then_comes bound k (node_of (asks bound) p) (option_and_then (λ event. what_comes event (set_aside bound p.state)) o))
+      (comes_alike bound p k)
+      ∙ go (may_come (asks bound) k p)
     where
       go : (o : Option Event)
           → then_comes bound k (node_of (asks bound) p) (option_and_then (λ event. what_comes event (set_aside bound p.state)) o)

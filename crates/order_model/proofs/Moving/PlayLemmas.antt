@@ -1,6 +1,6 @@
 -- Each order is played by its events.
 use Rattle.std.proofs.Common.{◌≡◌, ◌≤◌, ℕ, ◌+◌, Bool, true, false, List, [], ◌∷◌, ◌++◌, Option, Some, None, refl, sym, ap, ◌∙◌, arith, append-nil, append_assoc, subst}
-use Rattle.std.specs.Prelude.{◌==◌, ◌&&◌, not, slice_get, if◌then◌else◌}
+use Rattle.std.specs.Prelude.{◌==◌, ◌&&◌, not, if◌then◌else◌}
 use Rattle.std.specs.Option.{option_and_then, option_map, option_map_or}
 use Rattle.std.proofs.lemmas.Bool.{eqb-true, false≢true}
 use Rattle.std.proofs.lemmas.List.Concat.{flat_map-append}
@@ -23,9 +23,10 @@ use Rattle.order_model.specs.declared.moves.Move.TheVariants.{Once, Preempted, S
 use Rattle.order_model.proofs.ExitLemmas.{exits_on-append, exits_on-none, kept_ends-append, kept_ends-none}
 use Rattle.order_model.specs.Exits.{exits_on, kept_ends}
 use Rattle.order_model.specs.Moves.{Asked, Point, behind, byte_of_what, bytes_of, events_of, events_of_move, is_at_bound, is_slice, leads}
-use Rattle.order_model.specs.Moves.{leads_by, most_steps, slice_at, what_comes, with_come}
+use Rattle.order_model.specs.Moves.{leads_by, may_come, most_steps, slice_at, what_comes, with_come}
 use Rattle.order_model.specs.Orders.{OrdersArePlayed}
 use Rattle.order_model.proofs.MoveLemmas.{preempted_is}
+use Rattle.order_model.proofs.Moving.IdleLemmas.{may_come_now}
 
 -- a test of three parts holds, and so do the parts
 parts : (a b c : Bool) → (a && (b && c)) ≡ true → (a ≡ true) × (c ≡ true)
@@ -133,7 +134,7 @@ module _ (asked : Asked) (limit : ℕ) where
   once_moves : (p next : Point) (k : ℕ) → leads asked p (Once k) ≡ Some next
       → Plays (events_of_move asked (Once k)) p next × (p.state.steps ≤ next.state.steps)
   unfolding leads
-  once_moves p next k e = by_came (p.came k) (slice_get asked.once k) refl e
+  once_moves p next k e = by_event (may_come asked k p) refl e
     where
       by_done : (event : Event) (o : Option Recorded) → what_comes event p.state ≡ o
           → option_map (λ done. with_come k (behind asked p done)) o ≡ Some next → Plays (event ∷ []) p next × (p.state.steps ≤ next.state.steps)
@@ -143,13 +144,13 @@ module _ (asked : Asked) (limit : ℕ) where
           subst (λ (x : Point). Plays (event ∷ []) p x × (p.state.steps ≤ x.state.steps)) (same_Some (with_come k (behind asked p done)) next f)
           (record { records = done.records; is = plays.0; console = refl; exits = refl }, plays.1)
 
-      by_came : (came : Bool) (o : Option Event) → slice_get asked.once k ≡ o
-          → option_map (λ done. with_come k (behind asked p done))
-          (option_and_then (λ event. what_comes event p.state) (if came then None else o)) ≡ Some next
-          → Plays (option_map_or (λ event. event ∷ []) o []) p next × (p.state.steps ≤ next.state.steps)
-      by_came true o q f = absurd (none-some next f)
-      by_came false None q f = absurd (none-some next f)
-      by_came false (Some event) q f = by_done event (what_comes event p.state) refl f
+      by_event : (o : Option Event) → may_come asked k p ≡ o
+          → option_map (λ done. with_come k (behind asked p done)) (option_and_then (λ event. what_comes event p.state) o) ≡ Some next
+          → Plays (events_of_move asked (Once k)) p next × (p.state.steps ≤ next.state.steps)
+      by_event None q f = absurd (none-some next f)
+      by_event (Some event) q f =
+          subst (λ (o : Option Event). Plays (option_map_or (λ event. event ∷ []) o []) p next × (p.state.steps ≤ next.state.steps))
+          (sym (may_come_now asked k p event q).its) (by_done event (what_comes event p.state) refl f)
 
   -- ---- moves
 

@@ -8,9 +8,9 @@ use Rattle.order_model.proofs.choices.add_events.Goals as goal
 
 pub loop-number-init : goal.loop-number-init
 unfolding listed_below
-loop-number-init c p same = sym (append-nil c.args.choices.now.items)
+loop-number-init c p stand = sym (append-nil c.args.choices.now.items)
 
 pub loop-number-preserved : goal.loop-number-preserved
-loop-number-preserved c p same =
+loop-number-preserved c p stand =
     next_listed Comes (comes_at (asked_of c.args.orders.now) p) c.loop-number.number c.args.choices.now.items c.loop-number.choices.items c.add_event.new.choices.items
-    (c.loop-number.invariant p same) (c.in_ok-add_event.ensures p same)
+    (c.loop-number.invariant p stand) (c.in_ok-add_event.ensures p stand)
