@@ -14,3 +14,4 @@ mod SpaceLemmas
 mod StandLemmas
 mod TellLemmas
 mod ToldLemmas
+mod TurnLemmas

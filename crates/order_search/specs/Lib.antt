@@ -1,5 +1,6 @@
 pub mod Before
 pub mod Booted
+pub mod ByTurns
 pub mod Faults
 pub mod Found
 pub mod Keys

@@ -16,6 +16,7 @@ mod searching;
 mod space;
 mod standing;
 mod subject;
+mod turns;
 
 pub use laws::{bytes_tell_nodes, orders_are_replayed};
 pub use quest::{OrderFault, Quest};

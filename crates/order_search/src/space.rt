@@ -58,6 +58,7 @@ impl Space for Quest {
         let preempted = run.trail.preempted;
         let mut edges = self.edges(path, run, &sight.choices)?;
         self.add_preempted(path, preempted, &mut edges)?;
+        let edges = self.in_order(path, edges)?;
         Ok(Followed {
             edges,
             note: sight.note,

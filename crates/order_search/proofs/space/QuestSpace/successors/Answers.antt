@@ -1,4 +1,5 @@
 use Rattle.std.proofs.Common.{◌≡◌, ◌∙◌, ℕ, List, ap, length, subst, sym}
+use Rattle.graph_search.specs.Edges.{AreEdges}
 use Rattle.graph_search.specs.declared.space.Successor.{Successor}
 use Rattle.order_model.specs.declared.moves.Move.{Move}
 use Rattle.order_model.specs.declared.orders.Trail.{Trail}
@@ -8,10 +9,11 @@ use Rattle.order_model.specs.declared.choices.Choice.{Choice}
 use Rattle.order_model.specs.Choosing.{all_choices_at, choices_at}
 use Rattle.order_model.specs.Edges.{AreEdgesBy}
 use Rattle.order_search.specs.declared.subject.Subject.{Subject}
-use Rattle.order_search.specs.Quests.{Arrives, IsKeyOf, IsPath, searching_of, start_of}
+use Rattle.order_search.specs.Quests.{Arrives, IsKeyOf, IsPath, next_node, searching_of, start_of}
 use Rattle.order_search.proofs.RunLemmas.{room_still}
 use Rattle.order_search.proofs.SpaceLemmas.{node_edges, node_note}
 use Rattle.order_search.proofs.StandLemmas.{arrives_still, one_point}
+use Rattle.order_search.proofs.TurnLemmas.{still_edges}
 use Rattle.order_search.proofs.space.QuestSpace.successors.Goals as goal
 
 pub edges-requires-clause-path : goal.edges-requires-clause-path
@@ -78,8 +80,12 @@ returns-clause-edges c node led =
     let there : AreAll c.edges.new.self.subject c.args.path.now c.add_preempted.new.edges.items = c.in_ok-add_preempted.ensures.edges in
     let here : AreAll s c.args.path.now c.add_preempted.new.edges.items =
     subst (λ (x : Subject). AreAll x c.args.path.now c.add_preempted.new.edges.items) (c.edges.ensures.subject ∙ c.look.ensures.subject) there in
+    let before =
     node_edges s c.args.self.now.lawful c.args.self.now.can_start c.args.path.now c.in-Ok.sight.choices.items c.in-Ok.sight.note
-    c.in-Ok.ensures.sight node led c.add_preempted.new.edges.items here
+    c.in-Ok.ensures.sight node led c.add_preempted.new.edges.items here in
+    subst (AreEdges (next_node (searching_of s)) (IsKeyOf (searching_of s)) node) (sym c.in_ok-edges-2.ensures.order)
+    (still_edges (next_node (searching_of s)) (IsKeyOf (searching_of s)) node c.add_preempted.new.self.subject.orders.preemptions
+    c.args.path.now c.add_preempted.new.edges.items before)
 
 pub returns-clause-note : goal.returns-clause-note
 returns-clause-note c node led =
