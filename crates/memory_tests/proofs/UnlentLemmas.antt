@@ -46,6 +46,10 @@ fresh_unlent l fresh = record {
 pub unlent_then : (l m : Ledger) → loans m ≡ loans l → IsUnlent l → (number : Number) → IsFresh (loans m) number
 unlent_then l m same u number = subst (λ x. IsFresh x number) (sym same) (unlent_fresh l u number)
 
+-- with the same loans it is still without one
+pub still_unlent : (l m : Ledger) → loans m ≡ loans l → IsUnlent l → IsUnlent m
+still_unlent l m same u = fresh_unlent m (unlent_then l m same u)
+
 either : (b : Bool) (new old : Option Page) → loan_of new ≡ None → loan_of old ≡ None → loan_of (if b then new else old) ≡ None
 either true new old x y = x
 either false new old x y = y

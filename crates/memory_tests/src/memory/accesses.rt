@@ -8,7 +8,7 @@ ghost use Rattle.vm_memory.specs.Using.Known.{Remembers};
 ghost use Rattle.xk_base.specs.UserMemory.{size_of};
 
 use super::PID;
-use crate::expecting::{expect, expect_read, expect_stored};
+use crate::expecting::expect_eq;
 use std::process::Abort;
 use vm_memory::{KnownPages, KnownUser, Memory, User};
 use xk_base::{Failed, Pid, Stored, UserMemory, Width};
@@ -47,23 +47,24 @@ fn attempt<U: UserMemory>(rt: &impl Abort, user: &mut U, row: Try) -> Result<(),
     match does {
         Does::Fetch(wanted) => {
             expect_aligned(rt, va, Width::Word);
-            expect_read(rt, user.fetch(va)?, wanted);
+            expect_eq(rt, user.fetch(va)?, wanted);
         }
         Does::Load(wanted) => {
             expect_aligned(rt, va, width);
-            expect_read(rt, user.load(va, width)?, wanted);
+            expect_eq(rt, user.load(va, width)?, wanted);
         }
         Does::Store(number, wanted) => {
             expect_aligned(rt, va, width);
             let may = user.can_store(va, width);
-            expect(rt, may == (wanted != Stored::Fault));
-            expect_stored(rt, user.store(va, width, number)?, wanted);
+            expect_eq(rt, may, (wanted != Stored::Fault));
+            expect_eq(rt, user.store(va, width, number)?, wanted);
         }
     }
     Ok(())
 }
 
-fn user_attempt<W: SwapStore>(
+/// An access of a process.
+pub fn user_attempt<W: SwapStore>(
     rt: &impl Abort,
     memory: &mut Memory<W>,
     pid: Pid,

@@ -7,17 +7,20 @@ ghost use Rattle.ledger_model.specs.Loans.{IsFresh, loans};
 ghost use Rattle.std.specs.Prelude.{◌≡◌, ◌+◌, ◌<◌, ◌≤◌, [], ◌∷◌, length, IfOk, OnOk};
 ghost use Rattle.vm_memory.specs.Memory.{IsUsable, ledger};
 ghost use Rattle.vm_memory.specs.Sound.{IsSound};
-ghost use Rattle.vm_memory.specs.Using.UserView.{KeepsRest};
 ghost use Rattle.xk_base.specs.declared.ids.Number.{Number};
 
 use super::WRITE;
-use crate::expecting::{expect, expect_here, expect_read, expect_stored};
+use super::accesses::Does::{Load, Store};
+use super::accesses::{Try, user_attempt};
+use crate::expecting::expect_eq;
 use boot_plan::{BootPlan, PagePlan, ProcPlan};
 use std::alloc::Global;
 use std::process::Abort;
 use sv32_space::{Walked, root_of, walk};
-use vm_memory::{BootError, BootFault, Here, Memory, User};
-use xk_base::{Access, Failed, NoMemory, Number, Pid, Place, Row, Stored, UserMemory, Vpn, Width};
+use vm_memory::{BootError, BootFault, Here, Memory};
+use xk_base::Stored::Done;
+use xk_base::Width::Word;
+use xk_base::{Access, Failed, NoMemory, Number, Pid, Place, Row, Vpn};
 use xk_ports::{MemStore, SwapStore};
 
 // The pages of each process; the first byte of each is its own, the rest zeros.
@@ -111,40 +114,6 @@ fn byte_in<W: SwapStore>(memory: &Memory<W>, at: Place) -> Option<u8>
     Some(ram.page(ram.frame_of(ppn)?)[0])
 }
 
-// The first word of a page, if its process may load it.
-fn load<W: SwapStore>(memory: &mut Memory<W>, at: Place) -> Result<Option<u32>, Failed>
-    requires sound { IsSound W.slot_count memory.old }
-    requires usable { IsUsable memory.old }
-    requires page { at.vpn.0 < 1048576 }
-    ensures rest { KeepsRest W.SwapStore at.pid memory.old memory.new }
-    ensures usable { OnOk result (IsUsable memory.new) }
-{
-    let mut user = User {
-        mem: memory,
-        pid: at.pid,
-    };
-    let loaded = user.load(at.vpn.0 * 4096, Width::Word);
-    let User { mem: _, pid: _ } = user;
-    loaded
-}
-
-// Stores a page's first word.
-fn store<W: SwapStore>(memory: &mut Memory<W>, at: Place, word: u32) -> Result<Stored, Failed>
-    requires sound { IsSound W.slot_count memory.old }
-    requires usable { IsUsable memory.old }
-    requires page { at.vpn.0 < 1048576 }
-    ensures rest { KeepsRest W.SwapStore at.pid memory.old memory.new }
-    ensures usable { OnOk result (IsUsable memory.new) }
-{
-    let mut user = User {
-        mem: memory,
-        pid: at.pid,
-    };
-    let stored = user.store(at.vpn.0 * 4096, Width::Word, word);
-    let User { mem: _, pid: _ } = user;
-    stored
-}
-
 // A page is out, comes in with its word, and gets another one.
 fn turn<W: SwapStore>(
     rt: &impl Abort,
@@ -161,13 +130,12 @@ fn turn<W: SwapStore>(
     ensures loans { loans (ledger W.held memory.new) ≡ loans (ledger W.held memory.old) }
 {
     let (old, new) = bytes;
-    expect(rt, byte_in(memory, at) == None);
-    let loaded = load(memory, at)?;
-    expect_read(rt, loaded, Some(old as u32));
-    expect(rt, byte_in(memory, at) == Some(old));
-    let stored = store(memory, at, new as u32)?;
-    expect_stored(rt, stored, Stored::Done);
-    expect(rt, byte_in(memory, at) == Some(new));
+    expect_eq(rt, byte_in(memory, at), None);
+    let va = at.vpn.0 * 4096;
+    user_attempt(rt, memory, at.pid, Try(va, Word, Load(Some(old as u32))))?;
+    expect_eq(rt, byte_in(memory, at), Some(old));
+    user_attempt(rt, memory, at.pid, Try(va, Word, Store(new as u32, Done)))?;
+    expect_eq(rt, byte_in(memory, at), Some(new));
     Ok(())
 }
 
@@ -196,20 +164,20 @@ fn round<W: SwapStore>(
 fn as_before<W: SwapStore>(rt: &impl Abort, memory: &Memory<W>)
     requires sound { IsSound W.slot_count memory.now }
 {
-    expect(rt, (memory.pages(), memory.cap()) == (6, 6));
+    expect_eq(rt, (memory.pages(), memory.cap()), (6, 6));
     for k in 0..6 {
         let own = Here::Own {
             right: WRITE,
             console: false,
             loan: None,
         };
-        expect_here(rt, memory.at(place(k)), own);
+        expect_eq(rt, memory.at(place(k)), own);
         let k = k as u8;
         let is_known = match byte_in(memory, place(k as u32)) {
             None => true,
             Some(byte) => [1 + k, 11 + k, 21 + k].contains(&byte),
         };
-        expect(rt, is_known);
+        expect_eq(rt, is_known, true);
     }
 }
 
@@ -239,7 +207,7 @@ fn run(rt: &impl Abort, alloc: Global, mut store: MemStore) -> (End, MemStore) {
     }
     match booted(alloc, store) {
         Err(fault) => {
-            expect(rt, fault.why == BootError::SwapFault);
+            expect_eq(rt, fault.why, BootError::SwapFault);
             (End::NotBooted, fault.store)
         }
         Ok(mut memory) => {
@@ -267,13 +235,10 @@ fn expected(failing: u64) -> End {
 #[test]
 fn pages_go_out_and_come_in(rt: HostRuntime) {
     for failing in 0..31 {
-        if let Ok(fails) = vec![in rt.alloc(); failing] {
-            let (end, store) = run(&rt, rt.alloc(), MemStore::new(fails));
-            expect(&rt, end == expected(failing));
-            expect(&rt, store.preparations().len() == 1);
-            expect(&rt, store.slots() == if failing == 1 { 0 } else { 4 });
-        } else {
-            expect(&rt, false);
-        }
+        let fails = vec![in rt.alloc(); failing].expect(&rt, "memory");
+        let (end, store) = run(&rt, rt.alloc(), MemStore::new(fails));
+        expect_eq(&rt, (failing, end), (failing, expected(failing)));
+        expect_eq(&rt, store.preparations().len(), 1);
+        expect_eq(&rt, store.slots(), if failing == 1 { 0 } else { 4 });
     }
 }

@@ -12,7 +12,7 @@ use super::WRITE;
 use super::accesses::Does::{Load, Store};
 use super::accesses::{Try, user_attempts};
 use super::calls::make;
-use crate::expecting::{expect, expect_here, expect_walked};
+use crate::expecting::expect_eq;
 use boot_plan::{BootPlan, PagePlan, ProcPlan};
 use loan_flags::Loan;
 use std::alloc::Global;
@@ -233,18 +233,17 @@ fn while_lent<W: SwapStore>(
     ensures no_loan { (number : Number) → IsFresh (loans (ledger W.held memory.new)) number }
 {
     let Some(loan) = lent(memory, kind) else {
-        expect(rt, false);
-        return Ok(());
+        panic!(rt; "no loan");
     };
     let here = Here::Lent {
         kind,
         lender: Some(place(LENDER, FROM + 0x1000)),
         number: ONE,
     };
-    expect_here(rt, memory.at(place(HOLDER, TO + 0x1000)), here);
+    expect_eq(rt, memory.at(place(HOLDER, TO + 0x1000)), here);
     let done = both(rt, memory, sides);
     memory.end_loan(loan);
-    expect_here(rt, memory.at(place(HOLDER, TO)), Here::Nothing);
+    expect_eq(rt, memory.at(place(HOLDER, TO)), Here::Nothing);
     done
 }
 
@@ -271,10 +270,10 @@ fn lend_script<W: SwapStore>(
 fn run(rt: &impl Abort, alloc: Global, kind: LoanKind, rows: (&Sides, &Sides)) {
     match booted(alloc, SureStore::new()) {
         Ok(mut memory) => {
-            expect(rt, lend_script(rt, &mut memory, kind, rows).is_ok());
+            expect_eq(rt, lend_script(rt, &mut memory, kind, rows).is_ok(), true);
             let _ = memory.close();
         }
-        Err(_) => expect(rt, false),
+        Err(_) => panic!(rt; "not booted"),
     }
 }
 
@@ -314,8 +313,7 @@ fn while_orphaned<W: SwapStore>(rt: &impl Abort, memory: &mut Memory<W>) -> Resu
     ensures no_loan { (number : Number) → IsFresh (loans (ledger W.held memory.new)) number }
 {
     let Some(loan) = lent(memory, LoanKind::Exclusive) else {
-        expect(rt, false);
-        return Ok(());
+        panic!(rt; "no loan");
     };
     let orphans = memory.orphan(loan);
     let here = Here::Lent {
@@ -323,12 +321,12 @@ fn while_orphaned<W: SwapStore>(rt: &impl Abort, memory: &mut Memory<W>) -> Resu
         lender: None,
         number: ONE,
     };
-    expect_here(rt, memory.at(place(HOLDER, TO)), here);
-    expect_here(rt, memory.at(place(LENDER, FROM)), Here::Nothing);
+    expect_eq(rt, memory.at(place(HOLDER, TO)), here);
+    expect_eq(rt, memory.at(place(LENDER, FROM)), Here::Nothing);
     let done = both(rt, memory, &ORPHANED);
-    expect(rt, memory.pages() == 4);
+    expect_eq(rt, memory.pages(), 4);
     memory.end_loan(orphans);
-    expect(rt, memory.pages() == 2);
+    expect_eq(rt, memory.pages(), 2);
     done
 }
 
@@ -352,9 +350,9 @@ fn orphan_script<W: SwapStore>(rt: &impl Abort, memory: &mut Memory<W>) -> Resul
     both(rt, memory, &BEFORE)?;
     while_orphaned(rt, memory)?;
     let made = make(memory, Window::Heap, None, 2)?;
-    expect(rt, made == Ok(Vpn(0x2_0000)));
+    expect_eq(rt, made, Ok(Vpn(0x2_0000)));
     let reached = walk(memory.ram(), root_of(HOLDER), FROM, Access::Load);
-    expect_walked(rt, reached, Walked::Reaches(0x4002_C000));
+    expect_eq(rt, reached, Walked::Reaches(0x4002_C000));
     user_attempts(rt, memory, HOLDER, &ZEROS)
 }
 
@@ -362,9 +360,9 @@ fn orphan_script<W: SwapStore>(rt: &impl Abort, memory: &mut Memory<W>) -> Resul
 fn orphans_are_the_holders_until_they_are_forgotten(rt: HostRuntime) {
     match booted(rt.alloc(), SureStore::new()) {
         Ok(mut memory) => {
-            expect(&rt, orphan_script(&rt, &mut memory).is_ok());
+            expect_eq(&rt, orphan_script(&rt, &mut memory).is_ok(), true);
             let _ = memory.close();
         }
-        Err(_) => expect(&rt, false),
+        Err(_) => panic!(&rt; "not booted"),
     }
 }

@@ -1,5 +1,4 @@
 use Rattle.std.proofs.Common.{◌≡◌}
-use Rattle.xk_base.specs.declared.ids.Pid.{Pid}
 use Rattle.ledger_model.specs.Loans.{loans}
 use Rattle.vm_memory.specs.Memory.{IsUsable, ledger, size}
 use Rattle.vm_memory.specs.Sound.{IsSound}
