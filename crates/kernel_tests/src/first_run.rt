@@ -3,6 +3,7 @@
 ghost use Rattle.std.specs.Prelude.{◌≤◌, length, IfOk, IfSome};
 ghost use Rattle.xk_kernel.specs.Sound.{IsSound, IsUsable};
 
+use crate::expecting::expect_eq;
 use boot_plan::plan;
 use kernel_args::read_args;
 use std::alloc::Global;
@@ -12,7 +13,7 @@ use xk_kernel::{Kernel, SwapFault};
 use xk_ports::{SureStore, SwapStore};
 
 /// A process that maps the console, stores one byte there and loops. Its code is the last 36 bytes.
-pub(crate) const FIRST_IMAGE: [u8; 88] = [
+const FIRST_IMAGE: [u8; 88] = [
     0x58, 0x41, 0x72, 0x67, 0xca, 0x7f, 0x05, 0x00, 0x0d, 0x00, 0x00, 0x00, 0x01, 0x00, 0x00, 0x00,
     0x00, 0x00, 0x00, 0x40, 0x00, 0x00, 0x00, 0x01, 0x73, 0x72, 0x61, 0x6d, 0x49, 0x6e, 0x69, 0x45,
     0xd5, 0xfe, 0x04, 0x00, 0x34, 0x00, 0x00, 0x00, 0x00, 0x00, 0x01, 0x00, 0x00, 0x00, 0x01, 0x00,
@@ -79,11 +80,10 @@ fn quiet_runs(rt: HostRuntime) {
     match image_kernel(rt.alloc(), &FIRST_IMAGE, SureStore::new()) {
         Ok(mut kernel) => {
             let runs = three_runs(&mut kernel);
-            assert_eq!(rt; runs, Some([5, 1, 7]));
-            assert_eq!(rt; kernel.steps(), 16);
+            expect_eq(&rt, (runs, kernel.steps()), (Some([5, 1, 7]), 16));
             let _ = kernel.close();
         }
-        Err(_) => assert!(rt; false),
+        Err(_) => panic!(&rt; "not booted"),
     }
 }
 
@@ -123,10 +123,11 @@ fn is_saved_alike<W: SwapStore>(alloc: Global, kernel: &mut Kernel<W>, size: usi
 fn saved_twice(rt: HostRuntime) {
     match image_kernel(rt.alloc(), &FIRST_IMAGE, SureStore::new()) {
         Ok(mut kernel) => {
-            assert!(rt; is_saved_alike(rt.alloc(), &mut kernel, 41_628));
+            let alike = is_saved_alike(rt.alloc(), &mut kernel, 41_628);
+            expect_eq(&rt, alike, true);
             let _ = kernel.close();
         }
-        Err(_) => assert!(rt; false),
+        Err(_) => panic!(&rt; "not booted"),
     }
 }
 
@@ -189,20 +190,11 @@ fn resumed_and_saved(rt: HostRuntime) {
         Ok(mut kernel) => {
             let bytes = stepped_bytes(rt.alloc(), &mut kernel);
             let _ = kernel.close();
-            match bytes {
-                Some(sheet) => {
-                    let (near, _) = comes_back(
-                        rt.alloc(),
-                        sheet.as_slice(),
-                        false,
-                        SureStore::new(),
-                    );
-                    let (far, _) = comes_back(rt.alloc(), sheet.as_slice(), true, SureStore::new());
-                    assert!(rt; near && far);
-                }
-                None => assert!(rt; false),
-            }
+            let sheet = bytes.expect(&rt, "a state");
+            let (near, _) = comes_back(rt.alloc(), sheet.as_slice(), false, SureStore::new());
+            let (far, _) = comes_back(rt.alloc(), sheet.as_slice(), true, SureStore::new());
+            expect_eq(&rt, (near, far), (true, true));
         }
-        Err(_) => assert!(rt; false),
+        Err(_) => panic!(&rt; "not booted"),
     }
 }

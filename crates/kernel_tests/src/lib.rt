@@ -27,4 +27,6 @@ mod slots;
 #[cfg(test)]
 mod small_space;
 #[cfg(test)]
+mod state;
+#[cfg(test)]
 mod threads;

@@ -1,46 +1,19 @@
-//! The words of the entries of loans, in frames and out, and the free runs and sendable pages of a space.
+//! The free runs and the sendable pages of a space.
 
 ghost use Rattle.phys_pages.specs.Ram.{area};
 ghost use Rattle.std.specs.Prelude.{◌<◌, ◌≡◌, ◌≤◌};
 ghost use Rattle.sv32_space.specs.SpelledEntries.{IsEntry};
 ghost use Rattle.sv32_space.specs.Spaces.{IsMade};
-ghost use Rattle.sv32_space.specs.declared.sides.EntryKind.TheVariants.{Here, Out};
 
-use crate::expecting::{expect, expect_run, expect_word};
+use crate::expecting::expect_eq;
 use loan_flags::{free_run, may_send};
 use phys_pages::{Ram, Seat};
-use sv32_space::{Entry, EntryKind, Side, entry_of, new_space, set_entry};
+use sv32_space::{Entry, Side, new_space, set_entry};
 use xk_base::{Frame, MemKind, Pid, Place, Right, Slot, Vpn, Window, XousError};
 
 const START: u32 = 0x4000_0000;
 
 const RW: Right = Right { w: true, x: false };
-
-fn near(side: Side) -> EntryKind
-    ensures { result ≡ Here side 262166 }
-{
-    EntryKind::Here {
-        side,
-        ppn: 0x4_0016,
-    }
-}
-
-fn out(side: Side) -> EntryKind
-    ensures { result ≡ Out side 5 }
-{
-    EntryKind::Out { side, slot: 5 }
-}
-
-// Written down by hand from the bits of each kind.
-#[test]
-fn words_of_loans(rt: HostRuntime) {
-    expect_word(&rt, entry_of(near(Side::Own(RW))), 0x1000_58D7);
-    expect_word(&rt, entry_of(near(Side::LentOut(RW))), 0x1000_5BD3);
-    expect_word(&rt, entry_of(near(Side::LentIn)), 0x1000_5953);
-    expect_word(&rt, entry_of(near(Side::MutOut { x: false })), 0x1000_5B06);
-    expect_word(&rt, entry_of(near(Side::MutIn)), 0x1000_59D7);
-    expect_word(&rt, entry_of(out(Side::Own(RW))), 0x0000_14F6);
-}
 
 // An entry at a place of the Message window of process 2.
 fn put(ram: &mut Ram, vpn: u32, entry: Entry)
@@ -75,22 +48,19 @@ fn free_runs(rt: HostRuntime) {
         side: Side::Own(RW),
         seat: Seat::Frame(Frame(22)),
     };
-    if let Ok(mut ram) = Ram::new(rt.alloc(), START, 64) {
-        new_space(&mut ram, Frame(0));
-        expect_run(&rt, run_of(&ram, 2), Some(Vpn(0x4_0000)));
-        expect_run(&rt, run_of(&ram, 4096), Some(Vpn(0x4_0000)));
-        expect_run(&rt, run_of(&ram, 4097), None);
-        put(&mut ram, 0x4_0001, near);
-        expect_run(&rt, run_of(&ram, 1), Some(Vpn(0x4_0000)));
-        expect_run(&rt, run_of(&ram, 2), Some(Vpn(0x4_0002)));
-        expect_run(&rt, run_of(&ram, 4094), Some(Vpn(0x4_0002)));
-        expect_run(&rt, run_of(&ram, 4095), None);
-        put(&mut ram, 0x4_0FFD, near);
-        expect_run(&rt, run_of(&ram, 4091), Some(Vpn(0x4_0002)));
-        expect_run(&rt, run_of(&ram, 4092), None);
-    } else {
-        expect(&rt, false);
-    }
+    let mut ram = Ram::new(rt.alloc(), START, 64).expect(&rt, "memory");
+    new_space(&mut ram, Frame(0));
+    expect_eq(&rt, run_of(&ram, 2), Some(Vpn(0x4_0000)));
+    expect_eq(&rt, run_of(&ram, 4096), Some(Vpn(0x4_0000)));
+    expect_eq(&rt, run_of(&ram, 4097), None);
+    put(&mut ram, 0x4_0001, near);
+    expect_eq(&rt, run_of(&ram, 1), Some(Vpn(0x4_0000)));
+    expect_eq(&rt, run_of(&ram, 2), Some(Vpn(0x4_0002)));
+    expect_eq(&rt, run_of(&ram, 4094), Some(Vpn(0x4_0002)));
+    expect_eq(&rt, run_of(&ram, 4095), None);
+    put(&mut ram, 0x4_0FFD, near);
+    expect_eq(&rt, run_of(&ram, 4091), Some(Vpn(0x4_0002)));
+    expect_eq(&rt, run_of(&ram, 4092), None);
 }
 
 fn sent(ram: &Ram, n: u32, kind: MemKind) -> Result<(), XousError>
@@ -118,27 +88,27 @@ fn pages_to_send(rt: HostRuntime) {
         side: Side::LentOut(RW),
         seat: Seat::Frame(Frame(23)),
     };
-    if let Ok(mut ram) = Ram::new(rt.alloc(), START, 64) {
-        new_space(&mut ram, Frame(0));
-        put(&mut ram, 0x4_0000, near);
-        put(&mut ram, 0x4_0001, out);
-        put(&mut ram, 0x4_0002, lent);
-        expect(&rt, sent(&ram, 1, MemKind::LendMut) == Ok(()));
-        expect(&rt, sent(&ram, 2, MemKind::Lend) == Ok(()));
-        expect(&rt, sent(&ram, 2, MemKind::Move) == Ok(()));
-        expect(
-            &rt,
-            sent(&ram, 2, MemKind::LendMut) == Err(XousError::ShareViolation),
-        );
-        expect(
-            &rt,
-            sent(&ram, 3, MemKind::Move) == Err(XousError::ShareViolation),
-        );
-        expect(
-            &rt,
-            sent(&ram, 4, MemKind::Move) == Err(XousError::BadAddress),
-        );
-    } else {
-        expect(&rt, false);
-    }
+    let mut ram = Ram::new(rt.alloc(), START, 64).expect(&rt, "memory");
+    new_space(&mut ram, Frame(0));
+    put(&mut ram, 0x4_0000, near);
+    put(&mut ram, 0x4_0001, out);
+    put(&mut ram, 0x4_0002, lent);
+    expect_eq(&rt, sent(&ram, 1, MemKind::LendMut), Ok(()));
+    expect_eq(&rt, sent(&ram, 2, MemKind::Lend), Ok(()));
+    expect_eq(&rt, sent(&ram, 2, MemKind::Move), Ok(()));
+    expect_eq(
+        &rt,
+        sent(&ram, 2, MemKind::LendMut),
+        Err(XousError::ShareViolation),
+    );
+    expect_eq(
+        &rt,
+        sent(&ram, 3, MemKind::Move),
+        Err(XousError::ShareViolation),
+    );
+    expect_eq(
+        &rt,
+        sent(&ram, 4, MemKind::Move),
+        Err(XousError::BadAddress),
+    );
 }

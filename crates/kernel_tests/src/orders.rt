@@ -2,8 +2,7 @@
 
 ghost use Rattle.std.specs.Prelude.{◌≤◌, length};
 
-use crate::expecting::expect;
-use crate::first_run::FIRST_IMAGE;
+use crate::expecting::expect_eq;
 use boot_plan::plan;
 use graph_search::{Strategy, Turn};
 use kernel_args::read_args;
@@ -11,15 +10,15 @@ use order_model::Orders;
 use order_search::{Quest, Subject, begin_search, follow_node};
 use std::alloc::Global;
 
-// The image of the first run with RAM of 256 KiB, and the check number of that.
-fn small_image() -> [u8; 88] {
-    let mut image = FIRST_IMAGE;
-    image[4] = 0x22;
-    image[5] = 0x64;
-    image[22] = 0x04;
-    image[23] = 0x00;
-    image
-}
+/// The image of the first run with RAM of 256 KiB.
+const SMALL_IMAGE: [u8; 88] = [
+    0x58, 0x41, 0x72, 0x67, 0x22, 0x64, 0x05, 0x00, 0x0d, 0x00, 0x00, 0x00, 0x01, 0x00, 0x00, 0x00,
+    0x00, 0x00, 0x00, 0x40, 0x00, 0x00, 0x04, 0x00, 0x73, 0x72, 0x61, 0x6d, 0x49, 0x6e, 0x69, 0x45,
+    0xd5, 0xfe, 0x04, 0x00, 0x34, 0x00, 0x00, 0x00, 0x00, 0x00, 0x01, 0x00, 0x00, 0x00, 0x01, 0x00,
+    0x24, 0x00, 0x00, 0x04, 0x13, 0x05, 0x20, 0x00, 0xb7, 0x05, 0x00, 0xf0, 0x13, 0x06, 0x00, 0x00,
+    0xb7, 0x16, 0x00, 0x00, 0x13, 0x07, 0x60, 0x00, 0x73, 0x00, 0x00, 0x00, 0x93, 0x07, 0x80, 0x06,
+    0x23, 0x80, 0xf5, 0x00, 0x6f, 0x00, 0x00, 0x00,
+];
 
 // A search of the orders of an image in slices of up to seven steps, of which so many may be preempted.
 fn quest_of(alloc: Global, image: &[u8], bound: Option<u32>, preemptions: u32) -> Option<Quest>
@@ -52,7 +51,7 @@ fn nodes_of(
     preemptions: u32,
     strategy: Strategy,
 ) -> Option<usize> {
-    let mut quest = quest_of(alloc, &small_image(), bound, preemptions)?;
+    let mut quest = quest_of(alloc, &SMALL_IMAGE, bound, preemptions)?;
     let Ok(mut search) = begin_search(alloc, &mut quest, strategy) else {
         return None;
     };
@@ -72,10 +71,11 @@ fn nodes_of(
 #[test]
 fn orders_are_searched(rt: HostRuntime) {
     let alloc = rt.alloc();
-    expect(&rt, nodes_of(alloc, None, 0, Strategy::Breadth) == Some(3));
-    expect(
+    expect_eq(&rt, nodes_of(alloc, None, 0, Strategy::Breadth), Some(3));
+    expect_eq(
         &rt,
-        nodes_of(alloc, Some(27), 0, Strategy::Breadth) == Some(6),
+        nodes_of(alloc, Some(27), 0, Strategy::Breadth),
+        Some(6),
     );
-    expect(&rt, nodes_of(alloc, None, 1, Strategy::Depth) == Some(11));
+    expect_eq(&rt, nodes_of(alloc, None, 1, Strategy::Depth), Some(11));
 }

@@ -3,7 +3,7 @@
 ghost use Rattle.std.specs.Prelude.{◌≡◌, IfOk, IfSome, [], ◌∷◌};
 ghost use Rattle.graph_search.specs.Paths.{IsTree};
 
-use crate::expecting::expect;
+use crate::expecting::expect_eq;
 use graph_search::{
     Cut, Extent, Followed, Found, Space, Strategy, Successor, Turn, Unanswered, begin, follow,
     path_to,
@@ -117,6 +117,6 @@ fn finds_ring(alloc: Global, strategy: Strategy, followed: usize) -> bool {
 // Breadth first, the second node is met where the first is followed; depth first, it is found where it is followed itself.
 #[test]
 fn ring_is_searched(rt: HostRuntime) {
-    expect(&rt, finds_ring(rt.alloc(), Strategy::Breadth, 1));
-    expect(&rt, finds_ring(rt.alloc(), Strategy::Depth, 2));
+    expect_eq(&rt, finds_ring(rt.alloc(), Strategy::Breadth, 1), true);
+    expect_eq(&rt, finds_ring(rt.alloc(), Strategy::Depth, 2), true);
 }

@@ -1,6 +1,6 @@
 //! Servers by identifier, serial and seat.
 
-use crate::expecting::{expect, expect_pid, expect_serial};
+use crate::expecting::expect_eq;
 use server_table::{ServerSeat, Servers};
 use xk_base::{Pid, Serial, Sid, XousError};
 
@@ -16,29 +16,28 @@ fn make(servers: &mut Servers, sid: Sid, pid: u8) -> Option<Result<Serial, XousE
 
 #[test]
 fn a_seat_is_used_again_and_a_serial_never(rt: HostRuntime) {
-    if let Ok(mut servers) = Servers::new(rt.alloc()) {
-        expect(&rt, servers.next_serial() == Serial(1));
-        expect(&rt, make(&mut servers, SID, 2) == Some(Ok(Serial(1))));
-        expect(
-            &rt,
-            make(&mut servers, SID, 4) == Some(Err(XousError::ServerExists)),
-        );
-        expect_serial(&rt, servers.find(SID), Some(Serial(1)));
-        servers.remove(Serial(1));
-        expect_serial(&rt, servers.find(SID), None);
-        expect(&rt, make(&mut servers, SID, 4) == Some(Ok(Serial(2))));
-        expect(&rt, servers.seat(Serial(2)) == Some(0));
-        expect_pid(&rt, servers.owner(Serial(2)), Some(Pid(4)));
-        expect(&rt, servers.seat(Serial(1)) == None);
-        expect_pid(&rt, servers.owner(Serial(1)), None);
-        expect(
-            &rt,
-            servers.at_seat(0).map(|server| server.serial) == Some(Serial(2)),
-        );
-        expect(&rt, servers.at_seat(63) == None);
-    } else {
-        expect(&rt, false);
-    }
+    let mut servers = Servers::new(rt.alloc()).expect(&rt, "memory");
+    expect_eq(&rt, servers.next_serial(), Serial(1));
+    expect_eq(&rt, make(&mut servers, SID, 2), Some(Ok(Serial(1))));
+    expect_eq(
+        &rt,
+        make(&mut servers, SID, 4),
+        Some(Err(XousError::ServerExists)),
+    );
+    expect_eq(&rt, servers.find(SID), Some(Serial(1)));
+    servers.remove(Serial(1));
+    expect_eq(&rt, servers.find(SID), None);
+    expect_eq(&rt, make(&mut servers, SID, 4), Some(Ok(Serial(2))));
+    expect_eq(&rt, servers.seat(Serial(2)), Some(0));
+    expect_eq(&rt, servers.owner(Serial(2)), Some(Pid(4)));
+    expect_eq(&rt, servers.seat(Serial(1)), None);
+    expect_eq(&rt, servers.owner(Serial(1)), None);
+    expect_eq(
+        &rt,
+        servers.at_seat(0).map(|server| server.serial),
+        Some(Serial(2)),
+    );
+    expect_eq(&rt, servers.at_seat(63), None);
 }
 
 #[test]
@@ -55,51 +54,45 @@ fn servers_go_on_after_a_resume(rt: HostRuntime) {
             pid: Pid(2),
         },
     ];
-    if let Ok(mut servers) = Servers::resume(rt.alloc(), &rows, 9) {
-        expect(&rt, servers.next_serial() == Serial(9));
-        for (seat, row) in rows.iter().enumerate() {
-            expect_serial(&rt, servers.find(row.sid), Some(row.serial));
-            expect_pid(&rt, servers.owner(row.serial), Some(row.pid));
-            expect(&rt, servers.seat(row.serial) == Some(seat as u8));
-        }
-        expect_pid(&rt, servers.owner(Serial(1)), None);
-        expect_serial(&rt, servers.any_of(Pid(2)), Some(Serial(7)));
-        expect(
-            &rt,
-            make(&mut servers, Sid([9; 4]), 2) == Some(Ok(Serial(9))),
-        );
-        expect(&rt, servers.seat(Serial(9)) == Some(2));
-        expect(&rt, servers.next_serial() == Serial(10));
-    } else {
-        expect(&rt, false);
+    let mut servers = Servers::resume(rt.alloc(), &rows, 9).expect(&rt, "memory");
+    expect_eq(&rt, servers.next_serial(), Serial(9));
+    for (seat, row) in rows.iter().enumerate() {
+        expect_eq(&rt, servers.find(row.sid), Some(row.serial));
+        expect_eq(&rt, servers.owner(row.serial), Some(row.pid));
+        expect_eq(&rt, servers.seat(row.serial), Some(seat as u8));
     }
+    expect_eq(&rt, servers.owner(Serial(1)), None);
+    expect_eq(&rt, servers.any_of(Pid(2)), Some(Serial(7)));
+    expect_eq(&rt, make(&mut servers, Sid([9; 4]), 2), Some(Ok(Serial(9))));
+    expect_eq(&rt, servers.seat(Serial(9)), Some(2));
+    expect_eq(&rt, servers.next_serial(), Serial(10));
 }
 
 #[test]
 fn servers_are_few(rt: HostRuntime) {
-    if let Ok(mut servers) = Servers::new(rt.alloc()) {
-        for k in 0..64 {
-            let pid = if k < 40 { 2 } else { 3 };
-            expect(
-                &rt,
-                make(&mut servers, Sid([k, 0, 0, 0]), pid) == Some(Ok(Serial(k + 1))),
-            );
-        }
-        expect(
+    let mut servers = Servers::new(rt.alloc()).expect(&rt, "memory");
+    for k in 0..64 {
+        let pid = if k < 40 { 2 } else { 3 };
+        expect_eq(
             &rt,
-            make(&mut servers, SID, 2) == Some(Err(XousError::InvalidLimit)),
+            make(&mut servers, Sid([k, 0, 0, 0]), pid),
+            Some(Ok(Serial(k + 1))),
         );
-        expect(
-            &rt,
-            make(&mut servers, Sid([0; 4]), 2) == Some(Err(XousError::ServerExists)),
-        );
-        servers.remove(Serial(1));
-        expect(&rt, make(&mut servers, SID, 3) == Some(Ok(Serial(65))));
-        expect(&rt, servers.seat(Serial(65)) == Some(0));
-        expect_serial(&rt, servers.any_of(Pid(2)), Some(Serial(2)));
-        expect_serial(&rt, servers.any_of(Pid(3)), Some(Serial(41)));
-        expect_serial(&rt, servers.any_of(Pid(4)), None);
-    } else {
-        expect(&rt, false);
     }
+    expect_eq(
+        &rt,
+        make(&mut servers, SID, 2),
+        Some(Err(XousError::InvalidLimit)),
+    );
+    expect_eq(
+        &rt,
+        make(&mut servers, Sid([0; 4]), 2),
+        Some(Err(XousError::ServerExists)),
+    );
+    servers.remove(Serial(1));
+    expect_eq(&rt, make(&mut servers, SID, 3), Some(Ok(Serial(65))));
+    expect_eq(&rt, servers.seat(Serial(65)), Some(0));
+    expect_eq(&rt, servers.any_of(Pid(2)), Some(Serial(2)));
+    expect_eq(&rt, servers.any_of(Pid(3)), Some(Serial(41)));
+    expect_eq(&rt, servers.any_of(Pid(4)), None);
 }

@@ -137,9 +137,9 @@ pub fn is_free(s: &Space, seat: Seat) -> bool
     s.owners.info(seat).is_none()
 }
 
-/// The bytes of frame 30.
-pub fn bytes(s: &Space) -> &[u8] {
-    s.ram.page(Frame(30))
+/// Frame 30 holds sevens.
+pub fn has_sevens(s: &Space) -> bool {
+    s.ram.page(Frame(30)) == [7; 4096].as_slice()
 }
 
 /// The first of two free places in the Message window.
