@@ -1,6 +1,6 @@
 //! The codes of errors.
 
-use crate::expecting::expect_numbers;
+use crate::expecting::expect_eq;
 use xk_base::XousError;
 
 #[test]
@@ -9,5 +9,5 @@ fn codes(rt: HostRuntime) {
         XousError::BadAlignment.code(),
         XousError::InvalidLimit.code(),
     ];
-    expect_numbers(&rt, &told, &[1, 27]);
+    expect_eq(&rt, told, [1, 27]);
 }

@@ -17,16 +17,10 @@ mod lines;
 #[cfg(test)]
 mod outside;
 #[cfg(test)]
-mod plans;
-#[cfg(test)]
-mod real_store;
-#[cfg(test)]
 mod records;
 #[cfg(test)]
 mod registers;
 #[cfg(test)]
 mod rows;
-#[cfg(test)]
-mod state;
 #[cfg(test)]
 mod windows;

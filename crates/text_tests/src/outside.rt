@@ -2,9 +2,9 @@
 
 ghost use Rattle.std.specs.Prelude.{◌≡◌, length};
 
-use crate::expecting::{expect, expect_bytes};
+use crate::expecting::expect_eq;
 use std::alloc::Global;
-use std::test::Fail;
+use std::process::Abort;
 use xk_base::{Failed, Slot};
 use xk_ports::{
     FileSlot, Host, MemHost, MemSink, MemStore, StoreFault, SureSink, SureStore, SwapStore, put_all,
@@ -37,72 +37,66 @@ fn keeps_page<W: SwapStore>(
     }
 }
 
-fn host(alloc: Global) -> Result<MemHost, Fail> {
-    let mut files = Vec::new(alloc);
-    files.push((String::from_str(alloc, "a")?, b"hello".to_vec(alloc)?))?;
-    Ok(MemHost::new(alloc, files, 3, [2].to_vec(alloc)?, 3)?)
+/// A host of the file `a` in pieces of 3 bytes, whose second call fails, with room for 3 bytes of names.
+fn host(rt: &impl Abort, alloc: Global) -> MemHost {
+    let name = String::from_str(alloc, "a").expect(rt, "memory");
+    let bytes = b"hello".to_vec(alloc).expect(rt, "memory");
+    let files = vec![in alloc; (name, bytes)].expect(rt, "memory");
+    let fails = vec![in alloc; 2].expect(rt, "memory");
+    MemHost::new(alloc, files, 3, fails, 3).expect(rt, "memory")
 }
 
 #[test]
-fn host_gives_files_in_pieces(rt: HostRuntime) -> Result<(), Fail> {
-    let mut host = host(rt.alloc())?;
+fn host_gives_files_in_pieces(rt: HostRuntime) {
+    let mut host = host(&rt, rt.alloc());
     let mut into = [0; 8];
-    expect(&rt, read_once(&mut host, "a", &mut into).is_err());
-    expect(&rt, read_once(&mut host, "a", &mut into) == Ok(3));
-    expect(&rt, into == *b"hel\0\0\0\0\0");
-    Ok(())
+    let first = read_once(&mut host, "a", &mut into);
+    let second = read_once(&mut host, "a", &mut into);
+    expect_eq(&rt, (first.is_err(), second), (true, Ok(3)));
+    expect_eq(&rt, into, *b"hel\0\0\0\0\0");
 }
 
 #[test]
-fn host_keeps_what_was_asked(rt: HostRuntime) -> Result<(), Fail> {
-    let mut host = host(rt.alloc())?;
-    expect(&rt, host.pick_file(FileSlot::First, "b").is_err());
-    expect(&rt, host.asked_at(0).is_some());
+fn host_keeps_what_was_asked(rt: HostRuntime) {
+    let mut host = host(&rt, rt.alloc());
+    let is_there = host.pick_file(FileSlot::First, "b").is_ok();
+    expect_eq(&rt, (is_there, host.asked_at(0).is_some()), (false, true));
     // The names, with one byte more for each, have three bytes of room.
-    expect(&rt, host.pick_file(FileSlot::First, "a").is_err());
-    expect(&rt, host.asked_at(0).is_none());
-    Ok(())
+    let is_there = host.pick_file(FileSlot::First, "a").is_ok();
+    expect_eq(&rt, (is_there, host.asked_at(0).is_some()), (false, false));
 }
 
 #[test]
-fn sink_fails_at_its_calls(rt: HostRuntime) -> Result<(), Fail> {
-    let mut sink = MemSink::new(rt.alloc(), 5, [2].to_vec(rt.alloc())?)?;
-    expect(&rt, put_all(&mut sink, b"abc").is_ok());
-    expect(&rt, put_all(&mut sink, b"x").is_err());
-    expect(&rt, put_all(&mut sink, b"defg").is_err());
-    expect_bytes(&rt, sink.as_slice(), b"abcde");
-    Ok(())
+fn sink_fails_at_its_calls(rt: HostRuntime) {
+    let fails = vec![in rt.alloc(); 2].expect(&rt, "memory");
+    let mut sink = MemSink::new(rt.alloc(), 5, fails).expect(&rt, "memory");
+    let first = put_all(&mut sink, b"abc").is_ok();
+    let second = put_all(&mut sink, b"x").is_ok();
+    let third = put_all(&mut sink, b"defg").is_ok();
+    expect_eq(&rt, [first, second, third], [true, false, false]);
+    expect_eq(&rt, sink.as_slice(), b"abcde");
 }
 
 #[test]
-fn sure_sink_drops_what_has_no_room(rt: HostRuntime) -> Result<(), Fail> {
-    let mut sink = SureSink::new(rt.alloc(), 3)?;
-    expect(&rt, put_all(&mut sink, b"abcd").is_ok());
-    expect(&rt, !sink.is_whole());
-    expect_bytes(&rt, sink.as_slice(), b"abc");
-    Ok(())
+fn sure_sink_drops_what_has_no_room(rt: HostRuntime) {
+    let mut sink = SureSink::new(rt.alloc(), 3).expect(&rt, "memory");
+    let is_put = put_all(&mut sink, b"abcd").is_ok();
+    expect_eq(&rt, (is_put, sink.is_whole()), (true, false));
+    expect_eq(&rt, sink.as_slice(), b"abc");
 }
 
 #[test]
-fn stores_keep_a_page(rt: HostRuntime) -> Result<(), Fail> {
-    expect(
-        &rt,
-        keeps_page(rt.alloc(), &mut SureStore::new(), &[7; 4096]) == Ok(true),
-    );
-    Ok(())
+fn stores_keep_a_page(rt: HostRuntime) {
+    let told = keeps_page(rt.alloc(), &mut SureStore::new(), &[7; 4096]);
+    expect_eq(&rt, told, Ok(true));
 }
 
 #[test]
-fn store_fails_at_its_calls(rt: HostRuntime) -> Result<(), Fail> {
-    let mut store = MemStore::new([1].to_vec(rt.alloc())?);
-    expect(
-        &rt,
-        keeps_page(rt.alloc(), &mut store, &[7; 4096]) == Err(StoreFault::Failed),
-    );
-    expect(
-        &rt,
-        keeps_page(rt.alloc(), &mut store, &[7; 4096]) == Ok(true),
-    );
-    expect(&rt, store.preparations().len() == 2);
-    Ok(())
+fn store_fails_at_its_calls(rt: HostRuntime) {
+    let fails = vec![in rt.alloc(); 1].expect(&rt, "memory");
+    let mut store = MemStore::new(fails);
+    let first = keeps_page(rt.alloc(), &mut store, &[7; 4096]);
+    let second = keeps_page(rt.alloc(), &mut store, &[7; 4096]);
+    expect_eq(&rt, [first, second], [Err(StoreFault::Failed), Ok(true)]);
+    expect_eq(&rt, store.preparations().len(), 2);
 }
