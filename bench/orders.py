@@ -44,7 +44,7 @@ RACES = (
     "examples/orders/reply.image --kill 3 --fails waits --first",
     "examples/orders/lost.image --quantum 1 --fails console-not=3 --first",
     "examples/orders/lost.image --preemptions 1 --fails console-not=3 --first",
-    "examples/orders/store.image --preemptions 1 --fails exit --first --seconds 200",
+    "examples/orders/store.image --preemptions 1 --fails waits --first --seconds 200",
 )
 
 

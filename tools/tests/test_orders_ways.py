@@ -7,7 +7,7 @@ from xous.commands.test_orders import asked_of, parser, search
 from xous.runs import found, orders
 
 from .frame import EXAMPLES, Case, need_program, need_searcher
-from .test_orders import checks_of_orders, is_read
+from .test_orders import FEW, checks_of_orders, given_of, is_read
 
 SEEN_SO = (
     "--hex", "--see console,exits --one", "--see exits,waits --hex --fails waits", "--see exits,servers --fails exit --fails fault",
@@ -15,7 +15,15 @@ SEEN_SO = (
 )  # fmt: skip
 # A search without exits is one of its own, as its nodes don't keep them.
 WITHOUT_EXITS = ("--see console", "--see waits,servers --fails waits --one", "--see waits --hex", "--see servers --fails console=h --fails differ")
-FAILING_ORDERS = {"orders/late.image": "fault", "orders/sum.image": "exit", "orders/desk.image": "waits", "race/image": "console-not=x"}
+# Searches that end at the first failure, and how many nodes of the last level it takes at most.
+FAILING_ORDERS = {
+    "orders/late.image --fails fault": FEW,
+    "orders/sum.image --fails exit": FEW,
+    "orders/desk.image --fails waits": 100,
+    "race/image --fails console-not=x": FEW,
+    "orders/lost.image --preemptions 1 --fails console-not=3": 70,
+    "orders/store.image --preemptions 1 --fails waits": 400,
+}
 
 
 def checks_of_same(searcher, image, words, told, is_asked):
@@ -46,18 +54,19 @@ def checks_of_ways(program, searcher):
 
 def checks_of_first(program, searcher):
     """A search that ends sooner for a failure tells one whose order fails so."""
-    for name, failing in FAILING_ORDERS.items():
+    for searched, most in FAILING_ORDERS.items():
+        words = f"{searched} --first"
+        image, given, options = given_of(program, words)
         with tempfile.TemporaryDirectory() as folder:
-            words = ["--first", "--fails", failing]
-            command = [searcher, str(EXAMPLES / name), *words, "--write", folder]
+            command = [searcher, str(image), *options, "--write", folder]
             ran = subprocess.run(command, capture_output=True, text=True, check=False)
             good = ran.returncode == 1 and is_read(ran.stdout)
-            yield good, f"xousorders {name} {' '.join(words)}: status {ran.returncode}: {ran.stdout[-200:]}{ran.stderr}"
+            yield good, f"xousorders {words}: status {ran.returncode}: {ran.stdout[-200:]}{ran.stderr}"
             if good:
                 told = found.read(ran.stdout.splitlines())
-                yield failing in [ending.fails for ending in told.endings], f"the first failure of {name}: {told}"
-                asked = asked_of(parser().parse_args([program, "--search", name, *words]))
-                yield from checks_of_orders(program, EXAMPLES / name, asked, told, folder, f"xousorders {name} {' '.join(words)}")
+                is_told = given.fails[0] in [ending.fails for ending in told.endings] and told.states <= most
+                yield is_told, f"the first failure of {words}: {told}"
+                yield from checks_of_orders(program, image, asked_of(given), told, folder, f"xousorders {words}")
 
 
 class Ways(Case):
