@@ -87,15 +87,7 @@ fn new_draft(alloc: Global) -> Result<Draft, Wrong> {
     })
 }
 
-/// A file begins with these bytes.
-fn begin_file(alloc: Global, draft: &mut Draft, name: &str, bytes: Vec<u8>) -> Result<(), Wrong> {
-    let name = String::from_str(alloc, name)?;
-    draft.case.files.push((name, bytes))?;
-    draft.part = Part::File;
-    Ok(())
-}
-
-/// The file `i` or `e`, or one by its name.
+/// The file `i` or `e`, or one by its name, begins with these bytes.
 fn read_file(
     alloc: Global,
     draft: &mut Draft,
@@ -103,23 +95,26 @@ fn read_file(
     word: &str,
     rest: &str,
 ) -> Result<bool, Wrong> {
-    match word {
-        "file" => begin_file(alloc, draft, rest, Vec::new(alloc))?,
+    let mut bytes = Vec::new(alloc);
+    let name = match word {
+        "file" => rest,
         "image" => {
-            let bytes = book.texts.get(rest)?.as_slice().to_vec(alloc)?;
-            begin_file(alloc, draft, "i", bytes)?;
+            bytes.extend_from_slice(book.texts.get(rest)?.as_slice())?;
+            "i"
         }
         "machine" => {
-            let mut bytes = Vec::new(alloc);
             push_image(alloc, &mut bytes, book, rest)?;
-            begin_file(alloc, draft, "i", bytes)?;
+            "i"
         }
         "events" => {
-            let bytes = quoted(alloc, rest)?;
-            begin_file(alloc, draft, "e", bytes)?;
+            bytes.extend_from_slice(quoted(alloc, rest)?.as_slice())?;
+            "e"
         }
         _ => return Ok(false),
-    }
+    };
+    let name = String::from_str(alloc, name)?;
+    draft.case.files.push((name, bytes))?;
+    draft.part = Part::File;
     Ok(true)
 }
 
@@ -185,23 +180,7 @@ fn read_wanted(alloc: Global, wanted: &mut Wanted, word: &str, rest: &str) -> Re
     Ok(true)
 }
 
-/// What the case says of its output, which the lines below tell.
-fn read_out(draft: &mut Draft, word: &str) -> Result<(), Wrong> {
-    let (part, says) = match word {
-        "out" => (Part::Lines, Says::Whole),
-        "out-by-steps" => (Part::Out, Says::Whole),
-        "last-lines" => (Part::Lines, Says::Last),
-        "any-out" => (Part::Nothing, Says::Any),
-        // These were read before.
-        "row" | "rows" => return Ok(()),
-        _ => return Err(Wrong::Keyword),
-    };
-    draft.part = part;
-    draft.says = says;
-    Ok(())
-}
-
-/// A line of depth 1.
+/// A line of depth 1. The lines below one of the output say what it is.
 fn read_keyword(alloc: Global, draft: &mut Draft, book: &Book, text: &str) -> Result<(), Wrong> {
     let (word, rest) = next_word(text);
     draft.part = Part::Nothing;
@@ -214,7 +193,18 @@ fn read_keyword(alloc: Global, draft: &mut Draft, book: &Book, text: &str) -> Re
     if read_wanted(alloc, &mut draft.case.wanted, word, rest)? {
         return Ok(());
     }
-    read_out(draft, word)
+    let (part, says) = match word {
+        "out" => (Part::Lines, Says::Whole),
+        "out-by-steps" => (Part::Out, Says::Whole),
+        "last-lines" => (Part::Lines, Says::Last),
+        "any-out" => (Part::Nothing, Says::Any),
+        // These were read before.
+        "row" | "rows" => return Ok(()),
+        _ => return Err(Wrong::Keyword),
+    };
+    draft.part = part;
+    draft.says = says;
+    Ok(())
 }
 
 /// A line of depth 2.

@@ -177,13 +177,6 @@ fn cut(bytes: &mut Vec<u8>, text: &str) -> Result<(), Wrong> {
     Ok(())
 }
 
-/// Makes the check number of a saved state right.
-fn put_state_check(bytes: &mut [u8]) -> Result<(), Wrong> {
-    let parts = bytes.get(STATE_PARTS..).ok_or(Wrong::Place)?;
-    let check = u32::from(crc_x25(parts));
-    put_word(bytes, STATE_CHECK, check)
-}
-
 /// Does a step.
 pub fn do_step(alloc: Global, bytes: &mut Vec<u8>, book: &Book, text: &str) -> Result<(), Wrong> {
     if append(alloc, bytes, book, text)? {
@@ -200,7 +193,11 @@ pub fn do_step(alloc: Global, bytes: &mut Vec<u8>, book: &Book, text: &str) -> R
             put_check(bytes.as_mut_slice(), 0)
         }
         "checked" => put_check(bytes.as_mut_slice(), place(rest)?),
-        "checked-state" => put_state_check(bytes.as_mut_slice()),
+        "checked-state" => {
+            let parts = bytes.get(STATE_PARTS..).ok_or(Wrong::Place)?;
+            let check = u32::from(crc_x25(parts));
+            put_word(bytes.as_mut_slice(), STATE_CHECK, check)
+        }
         _ => Err(Wrong::Keyword),
     }
 }

@@ -5,17 +5,8 @@ use crate::wrong::Wrong;
 /// A call and a reply have eight words.
 const WORDS: usize = 8;
 
-/// A word has eight digits.
-const DIGITS: usize = 8;
-
-/// Appends a word, with the zeros before it that a line of the program has.
-fn push_word(text: &mut Vec<u8>, word: &str) -> Result<(), Wrong> {
-    for _ in word.len()..DIGITS {
-        text.push(b'0')?;
-    }
-    text.extend_from_slice(word.as_bytes())?;
-    Ok(())
-}
+/// The digits of a word of zero.
+const ZEROS: [u8; 8] = *b"00000000";
 
 /// Appends a line and a line feed. The words of a call and of a reply stand in the line without their first zeros, and
 /// without the words of zeros behind the last other one.
@@ -30,11 +21,11 @@ pub fn push_line(text: &mut Vec<u8>, line: &str) -> Result<(), Wrong> {
         is_first = false;
         if are_words {
             count = WORDS.min(count) + 1;
-            push_word(text, part)?;
+            text.extend_from_slice(&ZEROS[part.len().min(8)..])?;
         } else {
-            text.extend_from_slice(part.as_bytes())?;
             are_words = part == "call" || part == "reply";
         }
+        text.extend_from_slice(part.as_bytes())?;
     }
     if are_words {
         for _ in count..WORDS {
