@@ -5,3 +5,4 @@ pub mod MeantLemmas
 pub mod PartLemmas
 pub mod RowLemmas
 pub mod ServedLemmas
+pub mod Viewing

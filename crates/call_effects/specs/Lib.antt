@@ -1,3 +1,4 @@
+pub mod CallViews
 pub mod Deciding
 pub mod Effects
 pub mod Footprints

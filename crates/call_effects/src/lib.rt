@@ -1,5 +1,6 @@
-//! What the system calls of the abstract machine do, as data: the effects of each, and the verdict on it. The definitions stand in
-//! `specs/`; the functions have no code, and their contracts are the laws.
+//! What system calls do, as data, and what they depend on: the effects of each, the verdict on it, and the view that decides it. The
+//! definitions stand in `specs/`; the functions have no code, and their contracts are the laws. That calls depend on their view alone is
+//! the law `calls_depend_on_their_view` of `confidentiality_laws`.
 #![tactic(auto)]
 
 ghost use Rattle.call_effects.specs.Deciding.{CallsAreMeant};

@@ -1,7 +1,5 @@
-pub mod AlikeLemmas
 pub mod CallTableLemmas
 pub mod ChangeLemmas
 pub mod EffectLemmas
 pub mod EndLemmas
 pub mod InterruptLemmas
-pub mod VerdictLemmas

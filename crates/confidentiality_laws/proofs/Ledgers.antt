@@ -1,4 +1,3 @@
-pub mod BareTestLemmas
 pub mod OtherBytesLemmas
 pub mod PairLemmas
 pub mod ThroughStepLemmas

@@ -1,4 +1,3 @@
-pub mod CallViews
 pub mod Differences
 pub mod EmptyPlaces
 pub mod TwoHistories

@@ -1,6 +1,6 @@
 //! What calls depend on.
 
-ghost use Rattle.confidentiality_laws.specs.CallViews.{CallsDependOnTheirView};
+ghost use Rattle.call_effects.specs.CallViews.{CallsDependOnTheirView};
 
 /// **A call depends on its view alone.** Two machines that differ in nothing but the bytes of pages, the registers and pcs of threads, the
 /// count of steps, the reservation, the timer's compare value and which interrupts are pending refuse a call for the same, let it be made

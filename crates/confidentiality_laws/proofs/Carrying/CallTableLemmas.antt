@@ -5,12 +5,16 @@ use Rattle.ledger_model.specs.Steps.{zero_page}
 use Rattle.machine_model.specs.Calling.Calls.{call}
 use Rattle.machine_model.specs.State.Changes.{Outcome, Refused, Retried, Served}
 use Rattle.machine_model.specs.State.Machine.{Machine}
-use Rattle.confidentiality_laws.proofs.Carrying.AlikeLemmas.{call_mapped}
+use Rattle.call_effects.specs.CallViews.{call_view}
+use Rattle.call_effects.proofs.Viewing.AlikeLemmas.{call_mapped}
 use Rattle.confidentiality_laws.proofs.Carrying.ChangeLemmas.{Carries, IsBlind, outcome_through, with_left}
 use Rattle.confidentiality_laws.proofs.Carrying.EffectLemmas.{effect_through}
-use Rattle.confidentiality_laws.proofs.Carrying.VerdictLemmas.{view_through}
-use Rattle.confidentiality_laws.proofs.Ledgers.OtherBytesLemmas.{machine_through, no_bytes, through_twice}
+use Rattle.confidentiality_laws.proofs.Ledgers.OtherBytesLemmas.{bare_through, machine_through, no_bytes, through_twice}
 use Rattle.confidentiality_laws.proofs.Ledgers.PairLemmas.{both, first, first_zero_page, both_first, second, second_zero_page, both_second}
+
+-- other bytes leave what calls depend on
+view_through : (g : List ℕ → List ℕ) (m : Machine) → call_view m ≡ call_view (machine_through g m)
+view_through g m = ap (λ l. record (call_view m) { ledger = l }) (sym (bare_through g m.ledger))
 
 pub call_carries : (g : List ℕ → List ℕ) → g zero_page ≡ zero_page → Carries g call
 call_carries g zeros = call_mapped (machine_through g) (effect_through g zeros) (view_through g)

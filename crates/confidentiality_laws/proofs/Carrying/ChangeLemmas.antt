@@ -1,6 +1,6 @@
 -- Changes and outcomes with other bytes: what is told of them is the same, and so is what a call is refused for.
 use Rattle.machine_model.specs.Runs.Isolation.{without_bytes}
-use Rattle.confidentiality_laws.proofs.Carrying.AlikeLemmas.{outcome_mapped}
+use Rattle.call_effects.proofs.Viewing.AlikeLemmas.{outcome_mapped}
 use Rattle.confidentiality_laws.proofs.Ledgers.OtherBytesLemmas.{machine_through, no_bytes}
 use Rattle.std.proofs.Common.{◌≡◌, ℕ, List, refl}
 use Rattle.ledger_model.specs.Ledger.{Ledger}

@@ -1,6 +1,6 @@
 -- Each step of the ledger carries bytes as they are: where pages hold other bytes before it, the same pages hold them after it. Pages
 -- that are made hold zeros.
-use Rattle.confidentiality_laws.proofs.Ledgers.OtherBytesLemmas.{page_through, through, orphan_through, contents_through}
+use Rattle.confidentiality_laws.proofs.Ledgers.OtherBytesLemmas.{bare_through, page_through, through, orphan_through, contents_through}
 use Rattle.std.proofs.Common.{◌≡◌, ℕ, Bool, true, false, Option, Some, None, refl, sym, ap, ◌∙◌, List}
 use Rattle.std.specs.Prelude.{◌==◌, if◌then◌else◌}
 use Rattle.std.specs.Option.{option_and_then, option_map, option_or}
@@ -16,7 +16,7 @@ use Rattle.ledger_model.specs.Reach.{lender_of}
 use Rattle.ledger_model.specs.Steps.{end_loan, forget, freed, give, lend, make, make_console, new_page, orphan_with, pass, passed, reduce, remove, with_loan, with_right, zero_page}
 use Rattle.ledger_model.proofs.LedgerLemmas.{same_ledger}
 use Rattle.machine_model.specs.Messaging.LoanSets.{end_loans, freed_but, is_lent_by, orphan_but, orphan_loans, orphan_of_page, page_but}
-use Rattle.confidentiality_laws.proofs.Ledgers.BareTestLemmas.{lender_alike}
+use Rattle.call_effects.proofs.Viewing.BareTestLemmas.{lender_bare}
 
 module _ (g : List ℕ → List ℕ) where
   -- a function of a choice is the choice of what it is of both
@@ -168,6 +168,10 @@ module _ (g : List ℕ → List ℕ) where
   either None b = refl
   either (Some a) b = refl
 
+  lender_alike : (procs : ℕ) (l : Ledger) (p : Place) → lender_of procs (through g l) p ≡ lender_of procs l p
+  lender_alike procs l p =
+      sym (lender_bare procs (through g l) p) ∙ (ap (λ x. lender_of procs x p) (bare_through g l) ∙ lender_bare procs l p)
+
   lender_home : (l : Ledger) (o : Option Place)
       → option_map (page_through g) (option_and_then l.home o) ≡ option_and_then (through g l).home o
   unfolding through
@@ -188,4 +192,4 @@ module _ (g : List ℕ → List ℕ) where
           ∙ ap (λ a. option_or a (option_map (orphan_through g) (l.orphan q)))
           (became goes (option_and_then l.home (lender_of procs l q))
           ∙ ap (option_and_then (orphan_of_page goes))
-          (lender_home l (lender_of procs l q) ∙ ap (option_and_then (through g l).home) (sym (lender_alike g procs l q))))
+          (lender_home l (lender_of procs l q) ∙ ap (option_and_then (through g l).home) (sym (lender_alike procs l q))))

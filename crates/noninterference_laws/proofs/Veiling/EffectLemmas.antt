@@ -14,8 +14,8 @@ use Rattle.machine_model.specs.State.Machine.{Machine, Thread, Waiting}
 use Rattle.machine_model.specs.State.Order.{turn}
 use Rattle.machine_model.specs.State.Threads.{passed, with_state}
 use Rattle.call_effects.specs.Effects.{Awaits, Claims, ClosesServers, Connects, Effect, EndsTurn, Forgets, Founds, Frees, HasHeap, Orphans, Pages, Serves, Starts, TakesNumber, Unqueues, Waits, apply}
-use Rattle.confidentiality_laws.specs.CallViews.{call_view}
-use Rattle.confidentiality_laws.proofs.Carrying.AlikeLemmas.{BothRefused, BothRetried, BothServed, OutcomesAlike, call_alike, mapped_alike, outcome_mapped}
+use Rattle.call_effects.specs.CallViews.{call_view}
+use Rattle.call_effects.proofs.Viewing.AlikeLemmas.{BothRefused, BothRetried, BothServed, OutcomesAlike, call_alike, mapped_alike, outcome_mapped}
 use Rattle.noninterference_laws.specs.Inside.{Group, hidden_threads}
 use Rattle.noninterference_laws.proofs.Veiling.VeilLemmas.{again, answered_veil, changed_veil, forgotten_veil, next_ready_veil, put_veil}
 use Rattle.noninterference_laws.proofs.Veiling.VeilLemmas.{reserved_twice, veil}

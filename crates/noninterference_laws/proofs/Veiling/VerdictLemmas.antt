@@ -2,7 +2,7 @@
 use Rattle.std.proofs.Common.{◌≡◌, Bool, true, false, Option, Some, None, refl, sym}
 use Rattle.std.specs.Option.{option_map}
 use Rattle.machine_model.specs.State.Machine.{Machine, Thread}
-use Rattle.confidentiality_laws.specs.CallViews.{call_view, state_alone}
+use Rattle.call_effects.specs.CallViews.{call_view, state_alone}
 use Rattle.noninterference_laws.specs.Inside.{Group, hidden_if}
 use Rattle.noninterference_laws.proofs.Veiling.VeilLemmas.{veil}
 

@@ -7,7 +7,7 @@ use Rattle.machine_model.specs.State.Changes.{Change, Outcome, Refused, Retried,
 use Rattle.machine_model.specs.State.Machine.{Machine}
 use Rattle.machine_model.specs.State.Order.{next_ready, turn}
 use Rattle.call_effects.specs.Effects.{Effect, Pages, HasHeap, Starts, Waits, Awaits, EndsTurn, Founds, Connects, TakesNumber, Serves, ClosesServers, Unqueues, Orphans, Forgets, Claims, Frees, apply}
-use Rattle.confidentiality_laws.proofs.Carrying.AlikeLemmas.{call_mapped, outcome_mapped}
+use Rattle.call_effects.proofs.Viewing.AlikeLemmas.{call_mapped, outcome_mapped}
 use Rattle.order_model.specs.Counts.{with_count}
 
 module _ (n : ℕ) where

@@ -1,5 +1,5 @@
--- What is asked of a ledger before its pages change is the same without its bytes, and with other bytes.
-use Rattle.std.proofs.Common.{◌≡◌, ℕ, ◌+◌, Bool, ◌&&◌, ◌||◌, Option, Some, None, refl, ap, ◌∙◌, true, false, List, sym}
+-- What is asked of a ledger before its pages change is the same without its bytes.
+use Rattle.std.proofs.Common.{◌≡◌, ℕ, ◌+◌, Bool, ◌&&◌, ◌||◌, Option, Some, None, refl, ap, ◌∙◌, true, false}
 use Rattle.std.specs.Prelude.{is_some, nat_le, not}
 use Rattle.std.specs.List.{list_any, list_all}
 use Rattle.std.specs.Option.{option_map}
@@ -15,7 +15,6 @@ use Rattle.ledger_model.specs.Loans.{bare, bare_contents, bare_orphan, bare_page
 use Rattle.ledger_model.specs.Places.{first_place, run}
 use Rattle.ledger_model.specs.Reach.{Role, home_or, holder_role, is_free, lender_of, lent_role, orphan_or_holder, role_at}
 use Rattle.ledger_model.specs.RunTests.{any_console, any_free, any_lacks, any_not_sent, any_on_loan, any_used, asks_more, console_mapped, is_on_loan}
-use Rattle.confidentiality_laws.proofs.Ledgers.OtherBytesLemmas.{bare_through, through}
 use Rattle.ledger_model.proofs.Pages.BareLemmas.{bare-free, bare-lender}
 use Rattle.ledger_model.proofs.LedgerLemmas.{same_ledger}
 use Rattle.ledger_model.proofs.Stepping.WritingLemmas.{bare-pages}
@@ -129,45 +128,3 @@ least_run_bare procs l pid window n =
     λ i. option_map (λ k. (window_place pid window k).vpn)
     (least_below (window_pages window)
     (λ k. nat_le (k + n) (window_pages window) && list_all (λ p. free_bare procs l p i) (run (window_place pid window k) n)))
-
--- ---- and so it is where each page holds other bytes
-
-module _ (g : List ℕ → List ℕ) where
-  -- what is the same without bytes
-  same_through : {A : Type 0} (f : Ledger → A) → ((l : Ledger) → f (bare l) ≡ f l) → (l : Ledger) → f (through g l) ≡ f l
-  same_through f same l = sym (same (through g l)) ∙ (ap f (bare_through g l) ∙ same l)
-
-  pub lender_alike : (procs : ℕ) (l : Ledger) (p : Place) → lender_of procs (through g l) p ≡ lender_of procs l p
-  lender_alike procs l p = same_through (λ x. lender_of procs x p) (λ x. lender_bare procs x p) l
-
-  pub pages_alike : (procs : ℕ) (l : Ledger) → pages procs (through g l) ≡ pages procs l
-  pages_alike procs l = same_through (pages procs) (pages_bare procs) l
-
-  pub used_alike : (procs : ℕ) (l : Ledger) (first : Place) (n : ℕ)
-      → any_used procs (through g l) first n ≡ any_used procs l first n
-  used_alike procs l first n = same_through (λ x. any_used procs x first n) (λ x. used_bare procs x first n) l
-
-  pub any_free_alike : (procs : ℕ) (l : Ledger) (first : Place) (n : ℕ)
-      → any_free procs (through g l) first n ≡ any_free procs l first n
-  any_free_alike procs l first n = same_through (λ x. any_free procs x first n) (λ x. any_free_bare procs x first n) l
-
-  pub any_on_loan_alike : (procs : ℕ) (l : Ledger) (first : Place) (n : ℕ)
-      → any_on_loan procs (through g l) first n ≡ any_on_loan procs l first n
-  any_on_loan_alike procs l first n = same_through (λ x. any_on_loan procs x first n) (λ x. any_on_loan_bare procs x first n) l
-
-  pub any_lacks_alike : (asked : Right) (l : Ledger) (first : Place) (n : ℕ)
-      → any_lacks asked (through g l) first n ≡ any_lacks asked l first n
-  any_lacks_alike asked l first n = same_through (λ x. any_lacks asked x first n) (λ x. any_lacks_bare asked x first n) l
-
-  pub any_not_sent_alike : (procs : ℕ) (l : Ledger) (first : Place) (n : ℕ) (mutably : Bool)
-      → any_not_sent procs (through g l) first n mutably ≡ any_not_sent procs l first n mutably
-  any_not_sent_alike procs l first n mutably =
-      same_through (λ x. any_not_sent procs x first n mutably) (λ x. any_not_sent_bare procs x first n mutably) l
-
-  pub console_mapped_alike : (procs : ℕ) (l : Ledger) → console_mapped procs (through g l) ≡ console_mapped procs l
-  console_mapped_alike procs l = same_through (console_mapped procs) (console_mapped_bare procs) l
-
-  pub least_run_alike : (procs : ℕ) (l : Ledger) (pid : Pid) (window : Window) (n : ℕ)
-      → least_run procs (through g l) pid window n ≡ least_run procs l pid window n
-  least_run_alike procs l pid window n =
-      same_through (λ x. least_run procs x pid window n) (λ x. least_run_bare procs x pid window n) l

@@ -11,8 +11,8 @@ use Rattle.call_effects.specs.Deciding.{decide}
 use Rattle.call_effects.specs.Effects.{Effect, apply, run}
 use Rattle.call_effects.specs.Verdicts.{Does, RefusedIf, Refuses, RetriedIf, Verdict, meant}
 use Rattle.call_effects.proofs.MeantLemmas.{calls_meant}
-use Rattle.confidentiality_laws.specs.CallViews.{call_view}
-use Rattle.confidentiality_laws.proofs.Carrying.VerdictLemmas.{decide_same_view}
+use Rattle.call_effects.specs.CallViews.{call_view}
+use Rattle.call_effects.proofs.Viewing.VerdictLemmas.{decide_same_view}
 
 pub data OutcomesAlike (R : Machine → Machine → Type 0) : Outcome → Outcome → Type 0 where
   BothRefused : (error : XousError) → OutcomesAlike R (Refused error) (Refused error)
