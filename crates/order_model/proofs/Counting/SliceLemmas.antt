@@ -74,7 +74,7 @@ module _ (m : Machine) (who : ThreadId) (h : Matched m) (none : IsUncounted m) (
   step_is =
       step_of m who acts
       ∙ ap (λ (told : Told). record { machine = told.machine; records = map (record_of (m.steps + 1)) told.told })
-      (timed_unarmed done (left_unarmed m who h none acts))
+      (timed_unarmed done (left_unarmed m who h none))
 
   quiet_leaves : (step m).records ≡ [] → (step m).machine.claims ≡ m.claims
   quiet_leaves e =
