@@ -18,10 +18,13 @@ use Rattle.machine_model.specs.State.Order.{turn}
 use Rattle.call_effects.specs.Footprints.{CallsLeaveTheRest, LeavesAllBut, Part, LedgerPart, ThreadsPart, ProcessesPart, ServersPart, ClaimsPart, PendingPart, ComparePart, CursorPart, NumberPart, SerialPart, are_among, footprint, names, part_code, touched}
 use Rattle.call_effects.specs.Effects.{Effect, Pages, HasHeap, Starts, Waits, Awaits, EndsTurn, Founds, Connects, TakesNumber, Serves, ClosesServers, Unqueues, Orphans, Forgets, Claims, Frees, apply}
 use Rattle.call_effects.proofs.LeadingLemmas.{Leads, verdict_leads}
-use Rattle.call_effects.proofs.RowLemmas.{OfRows, ◌also◌, of_row}
+use Rattle.machine_model.proofs.Calling.TableLemmas.{OfRows, ◌also◌, of_questions, of_row}
 use Rattle.call_effects.specs.Verdicts.{Row, Verdict, all_effects, answers_caller, answers_nobody, meant}
 use Rattle.call_effects.proofs.MeantLemmas.{calls_meant}
-use Rattle.call_effects.specs.Deciding.{decide, rows}
+use Rattle.call_effects.specs.Deciding.{decide, rows, unhandled_row}
+use Rattle.machine_model.specs.Calling.Questions.{questions}
+use Rattle.call_effects.specs.Rows.QuestionRows.{question_row}
+use Rattle.syscall_codec.specs.CallNumbers.{forward_message}
 use Rattle.call_effects.specs.Rows.MessageRows.{forward_row, passed_if, receive_row, taken_or, try_receive_row}
 
 -- ---- parts among parts
@@ -221,10 +224,8 @@ table_within =
     also try_receive_within
     also (λ m w. refl)
     also (λ m w. refl)
-    also (λ m w. refl)
-    also (λ m w. refl)
-    also forward_within
-    also tt
+    also of_questions (λ number. true) WithinItsParts question_row (λ number question m w. refl) questions ((forward_message, forward_row) ∷ [])
+    (forward_within also tt)
 
 -- ---- calls
 
@@ -237,7 +238,7 @@ unfolding decide
 decided_within m w =
     verdict_leads (LeavesAllBut parts) (touches_among parts) (as_before parts) (one_after_the_other parts)
     (λ effect n among. widened (touched effect) parts n (apply effect n) among (touches_its_parts effect n)) m (decide m w)
-    (of_row (λ number. true) WithinItsParts (call_number w) refl (λ m w. refl) rows table_within m w)
+    (of_row (λ number. true) WithinItsParts (call_number w) refl unhandled_row (λ m w. refl) rows table_within m w)
   where
     parts : List Part
     parts = footprint (call_number w)

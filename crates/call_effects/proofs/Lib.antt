@@ -3,6 +3,5 @@ pub mod HeldLemmas
 pub mod LeadingLemmas
 pub mod MeantLemmas
 pub mod PartLemmas
-pub mod RowLemmas
 pub mod ServedLemmas
 pub mod Viewing

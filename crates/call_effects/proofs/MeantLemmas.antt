@@ -14,7 +14,7 @@ use Rattle.xk_base.specs.Calls.Kinds.{is_answered}
 use Rattle.syscall_codec.specs.ReplyWords.{plain_words}
 use Rattle.xk_base.specs.Tables.Sids.{serial_of}
 use Rattle.ledger_model.specs.Steps.{pass}
-use Rattle.machine_model.specs.State.Changes.{Call, Change, Outcome, Served, answering, unless_refused, unless_retried}
+use Rattle.machine_model.specs.State.Changes.{Call, Change, Served, answering, unless_refused, unless_retried}
 use Rattle.machine_model.specs.State.Machine.{Machine, Receiving}
 use Rattle.machine_model.specs.State.Threads.{answer_to, both_answers}
 use Rattle.machine_model.specs.Calling.Calls.{any_refusals, call, call_at, call_table}
@@ -24,7 +24,8 @@ use Rattle.machine_model.specs.State.Servers.{change_server}
 use Rattle.machine_model.specs.Calling.InterruptCalls.{claim_call, free_call}
 use Rattle.machine_model.specs.Ending.Closing.{closed, destroyed, servers_closed}
 use Rattle.machine_model.specs.Calling.ServerCalls.{connect_call, create_server_call, destroy_call, named_server, named_sid, own_server_refusals, try_connect_call}
-use Rattle.machine_model.specs.Calling.ThreadCalls.{create_call, join_call, process_id_call, terminate_call, thread_id_call, yield_call}
+use Rattle.machine_model.specs.Calling.ThreadCalls.{create_call, join_call, terminate_call, yield_call}
+use Rattle.machine_model.specs.Calling.Questions.{Question, asked, questions, with_questions}
 use Rattle.machine_model.specs.Ending.Ends.{death}
 use Rattle.machine_model.specs.Messaging.ForwardCalls.{forward_call, forward_refusals, forward_served_if, held_place, next_arrival, next_arrival_refusals, passable, passed_from, passed_number, passed_place, passed_to, with_first}
 use Rattle.machine_model.specs.Messaging.Messages.{new_message, new_number, without_held}
@@ -37,7 +38,8 @@ use Rattle.call_effects.specs.Effects.{Serves, Waits, apply, arriving}
 use Rattle.call_effects.specs.Rows.MessageRows.{arrival_answers, forward_row, passed_if, receive_row, return_memory_row, return_scalar1_row, return_scalar2_row, send_row, sent_to_row, taken_or, try_receive_row, try_send_row}
 use Rattle.call_effects.specs.Rows.InterruptRows.{claim_row, free_row}
 use Rattle.call_effects.specs.Rows.ServerRows.{connect_row, create_server_row, destroy_row, try_connect_row}
-use Rattle.call_effects.specs.Rows.ThreadRows.{create_row, death_plan, join_row, process_id_row, terminate_row, thread_id_row, yield_row}
+use Rattle.call_effects.specs.Rows.ThreadRows.{create_row, death_plan, join_row, terminate_row, yield_row}
+use Rattle.call_effects.specs.Rows.QuestionRows.{question_row}
 use Rattle.call_effects.specs.Rows.MemoryRows.{decrease_row, increase_row, map_row, unmap_row, update_row}
 
 -- a call is what the verdict of a row means
@@ -88,13 +90,9 @@ terminate_meant : IsMeant terminate_call terminate_row
 unfolding terminate_call
 terminate_meant m w = death_meant m.cursor.pid m
 
-thread_id_meant : IsMeant thread_id_call thread_id_row
-unfolding thread_id_call
-thread_id_meant m w = refl
-
-process_id_meant : IsMeant process_id_call process_id_row
-unfolding process_id_call
-process_id_meant m w = refl
+question_meant : (question : Question) → IsMeant (asked question) (question_row question)
+unfolding asked
+question_meant question m w = refl
 
 -- ---- servers
 
@@ -229,17 +227,23 @@ infixr 5 ◌also◌
     → AreMeant calls others → AreMeant ((number, served) ∷ calls) ((number, row) ∷ others)
 ◌also◌ one others = OneRow _ _ _ _ _ one others
 
-choice_meant : (m : Machine) (b : Bool) (x y : Outcome) (u v : Verdict) → x ≡ meant m u → y ≡ meant m v
-    → (if b then x else y) ≡ meant m (if b then u else v)
-choice_meant m true x y u v a b = a
-choice_meant m false x y u v a b = b
+-- calls that only ask, before others
+questions_meant : (questions : List (ℕ × Question)) (calls : List (ℕ × Call)) (others : List (ℕ × Row)) → AreMeant calls others
+    → AreMeant (with_questions asked questions calls) (with_questions question_row questions others)
+questions_meant [] calls others rest = rest
+questions_meant (question ∷ more) calls others rest =
+    OneRow question.0 (asked question.1) (question_row question.1) (with_questions asked more calls) (with_questions question_row more others)
+    (question_meant question.1) (questions_meant more calls others rest)
+
+choice_meant : (b : Bool) (x y : Call) (u v : Row) → IsMeant x u → IsMeant y v → IsMeant (if b then x else y) (if b then u else v)
+choice_meant true x y u v a b = a
+choice_meant false x y u v a b = b
 
 rows_meant : (number : ℕ) (calls : List (ℕ × Call)) (others : List (ℕ × Row)) → AreMeant calls others
     → IsMeant (call_at number calls) (row_at number others)
-rows_meant number _ _ NoRow m w = refl
-rows_meant number _ _ (OneRow k served row calls others one rest) m w =
-    choice_meant m (number == k) (served m w) (call_at number calls m w) (row m w) (row_at number others m w) (one m w)
-    (rows_meant number calls others rest m w)
+rows_meant number _ _ NoRow = λ m w. refl
+rows_meant number _ _ (OneRow k served row calls others one rest) =
+    choice_meant (number == k) served (call_at number calls) row (row_at number others) one (rows_meant number calls others rest)
 
 table_meant : AreMeant call_table rows
 table_meant =
@@ -265,10 +269,7 @@ table_meant =
     also try_receive_meant
     also join_meant
     also destroy_meant
-    also thread_id_meant
-    also process_id_meant
-    also forward_meant
-    also NoRow
+    also questions_meant questions _ _ (forward_meant also NoRow)
 
 pub calls_meant : CallsAreMeant
 unfolding call decide

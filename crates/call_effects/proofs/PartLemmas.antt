@@ -4,12 +4,12 @@ use Rattle.syscall_codec.specs.CallWords.{call_number}
 use Rattle.machine_model.specs.Calling.Calls.{call}
 use Rattle.machine_model.specs.State.Changes.{Change, Outcome, Refused, Retried, Served}
 use Rattle.machine_model.specs.State.Machine.{Machine}
-use Rattle.call_effects.specs.Deciding.{decide, rows}
+use Rattle.call_effects.specs.Deciding.{decide, rows, unhandled_row}
 use Rattle.call_effects.specs.Footprints.{LeavesAllBut, Part, footprint}
 use Rattle.call_effects.specs.Verdicts.{Row}
 use Rattle.call_effects.proofs.FootprintLemmas.{calls_leave_the_rest}
 use Rattle.call_effects.proofs.MeantLemmas.{calls_meant}
-use Rattle.call_effects.proofs.RowLemmas.{OfRows, of_row}
+use Rattle.machine_model.proofs.Calling.TableLemmas.{OfRows, of_row}
 use Rattle.call_effects.proofs.ServedLemmas.{OfPlan, OfServed, done, of_plan}
 
 -- the test tells of the parts that a call can change whether one of those that the law is about is among them
@@ -29,7 +29,7 @@ module _ (test : List Part → Bool) (P : Change → Type 0) (m : Machine) (w : 
   unfolding decide
   changing of can =
       subst (OfServed P) (sym (calls_meant m w))
-      (of_plan P m (decide m w) (λ none. of_row can_change OfCall (call_number w) can (λ same. tt) rows of refl))
+      (of_plan P m (decide m w) (λ none. of_row can_change OfCall (call_number w) can unhandled_row (λ same. tt) rows of refl))
 
   -- .. and of whatever change leaves them
   pub of_parts : OfChanging → ((change : Change) → LeavesAllBut (footprint (call_number w)) m change.machine → can_change (call_number w) ≡ false → P change)

@@ -1,21 +1,23 @@
 -- The table of system calls once more, with the verdict of each: what is decided of a call, and the law that this is what the
 -- machine makes of it.
-use Rattle.std.specs.Prelude.{◌≡◌, ℕ, ◌==◌, if◌then◌else◌, List, [], ◌∷◌}
+use Rattle.std.specs.Prelude.{◌≡◌, ℕ, List, [], ◌∷◌}
 use Rattle.xk_base.specs.declared.errors.XousError.TheVariants.{UnhandledSyscall}
 use Rattle.syscall_codec.specs.CallNumbers.{map_memory, yield_turn, claim_interrupt, free_interrupt, increase_heap, decrease_heap}
 use Rattle.syscall_codec.specs.CallNumbers.{update_memory_flags, create_server_with_address, receive_message, send_message, connect}
 use Rattle.syscall_codec.specs.CallNumbers.{create_thread, unmap_memory, return_memory, terminate_process, try_send_message, try_connect}
-use Rattle.syscall_codec.specs.CallNumbers.{return_scalar1, return_scalar2, try_receive_message, join_thread, destroy_server, get_thread_id}
-use Rattle.syscall_codec.specs.CallNumbers.{get_process_id, forward_message}
+use Rattle.syscall_codec.specs.CallNumbers.{return_scalar1, return_scalar2, try_receive_message, join_thread, destroy_server, forward_message}
 use Rattle.syscall_codec.specs.CallWords.{call_number}
 use Rattle.machine_model.specs.Calling.Calls.{any_refusals, call}
+use Rattle.machine_model.specs.Calling.Questions.{questions, with_questions}
+use Rattle.machine_model.specs.Calling.Tables.{row_of}
 use Rattle.machine_model.specs.State.Machine.{Machine}
 use Rattle.call_effects.specs.Rows.InterruptRows.{claim_row, free_row}
 use Rattle.call_effects.specs.Rows.MemoryRows.{decrease_row, increase_row, map_row, unmap_row, update_row}
 use Rattle.call_effects.specs.Rows.MessageRows.{forward_row, receive_row, return_memory_row, return_scalar1_row, return_scalar2_row}
 use Rattle.call_effects.specs.Rows.MessageRows.{send_row, try_receive_row, try_send_row}
 use Rattle.call_effects.specs.Rows.ServerRows.{connect_row, create_server_row, destroy_row, try_connect_row}
-use Rattle.call_effects.specs.Rows.ThreadRows.{create_row, join_row, process_id_row, terminate_row, thread_id_row, yield_row}
+use Rattle.call_effects.specs.Rows.QuestionRows.{question_row}
+use Rattle.call_effects.specs.Rows.ThreadRows.{create_row, join_row, terminate_row, yield_row}
 use Rattle.call_effects.specs.Verdicts.{RefusedIf, Refuses, Row, meant}
 
 -- one row for each number
@@ -43,15 +45,15 @@ rows =
     ∷ (try_receive_message, try_receive_row)
     ∷ (join_thread, join_row)
     ∷ (destroy_server, destroy_row)
-    ∷ (get_thread_id, thread_id_row)
-    ∷ (get_process_id, process_id_row)
-    ∷ (forward_message, forward_row)
-    ∷ []
+    ∷ with_questions question_row questions ((forward_message, forward_row) ∷ [])
 
--- the row of a number; a number that is not there is unhandled
+-- the row of a number that is in none
+abbrev pub unhandled_row : Row
+unhandled_row m w = Refuses UnhandledSyscall
+
+-- the row of a number
 abbrev pub row_at : ℕ → List (ℕ × Row) → Row
-row_at number [] m w = Refuses UnhandledSyscall
-row_at number (row ∷ others) m w = if number == row.0 then row.1 m w else row_at number others m w
+row_at = row_of unhandled_row
 
 -- the verdict on a call: what any call is refused for, and then its row
 unfoldable pub decide : Row

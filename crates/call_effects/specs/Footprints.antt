@@ -1,14 +1,14 @@
 -- Which parts of the machine each system call can change: the parts that each effect changes, and for each call those of all its
 -- effects.
-use Rattle.std.specs.Prelude.{◌≡◌, ℕ, Bool, false, ◌==◌, List, [], ◌∷◌, if◌then◌else◌}
+use Rattle.std.specs.Prelude.{◌≡◌, ℕ, Bool, false, ◌==◌, List, [], ◌∷◌}
 use Rattle.std.specs.List.{list_all, list_any}
 use Rattle.syscall_codec.specs.CallNumbers.{map_memory, yield_turn, claim_interrupt, free_interrupt, increase_heap, decrease_heap}
 use Rattle.syscall_codec.specs.CallNumbers.{update_memory_flags, create_server_with_address, receive_message, send_message, connect}
 use Rattle.syscall_codec.specs.CallNumbers.{create_thread, unmap_memory, return_memory, terminate_process, try_send_message, try_connect}
-use Rattle.syscall_codec.specs.CallNumbers.{return_scalar1, return_scalar2, try_receive_message, join_thread, destroy_server, get_thread_id}
-use Rattle.syscall_codec.specs.CallNumbers.{get_process_id, forward_message}
+use Rattle.syscall_codec.specs.CallNumbers.{return_scalar1, return_scalar2, try_receive_message, join_thread, destroy_server, forward_message}
 use Rattle.syscall_codec.specs.CallWords.{call_number}
 use Rattle.machine_model.specs.Calling.Calls.{call}
+use Rattle.machine_model.specs.Calling.Tables.{row_of}
 use Rattle.machine_model.specs.State.Changes.{Change, Served}
 use Rattle.machine_model.specs.State.Machine.{Machine}
 use Rattle.call_effects.specs.Effects.{Effect, Pages, HasHeap, Starts, Waits, Awaits, EndsTurn, Founds, Connects, TakesNumber, Serves}
@@ -97,7 +97,7 @@ sending_parts = LedgerPart ∷ ThreadsPart ∷ ServersPart ∷ NumberPart ∷ []
 abbrev pub dying_parts : List Part
 dying_parts = LedgerPart ∷ ThreadsPart ∷ ProcessesPart ∷ ServersPart ∷ ClaimsPart ∷ PendingPart ∷ ComparePart ∷ []
 
--- the parts that each call can change, beside the registers, pc and state of those whom it answers
+-- the parts that each call can change, beside the registers, pc and state of those whom it answers; calls that only ask change none
 abbrev pub footprints : List (ℕ × List Part)
 footprints =
     (map_memory, LedgerPart ∷ [])
@@ -122,15 +122,12 @@ footprints =
     ∷ (try_receive_message, ServersPart ∷ [])
     ∷ (join_thread, ThreadsPart ∷ [])
     ∷ (destroy_server, LedgerPart ∷ ServersPart ∷ [])
-    ∷ (get_thread_id, [])
-    ∷ (get_process_id, [])
     ∷ (forward_message, LedgerPart ∷ ServersPart ∷ [])
     ∷ []
 
 -- those of a number; a number that is not there changes nothing
 abbrev pub footprint_at : ℕ → List (ℕ × List Part) → List Part
-footprint_at number [] = []
-footprint_at number (row ∷ others) = if number == row.0 then row.1 else footprint_at number others
+footprint_at = row_of []
 
 abbrev pub footprint : ℕ → List Part
 footprint number = footprint_at number footprints

@@ -2,5 +2,6 @@
 pub mod InterruptRows
 pub mod MemoryRows
 pub mod MessageRows
+pub mod QuestionRows
 pub mod ServerRows
 pub mod ThreadRows

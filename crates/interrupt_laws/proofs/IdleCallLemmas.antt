@@ -24,7 +24,7 @@ use Rattle.call_effects.specs.Rows.ThreadRows.{create_row, join_row, terminate_r
 use Rattle.call_effects.specs.Verdicts.{Does, RefusedIf, Refuses, RetriedIf, Verdict, all_effects, answers_nobody}
 use Rattle.call_effects.proofs.LeadingLemmas.{run_leads}
 use Rattle.call_effects.proofs.PartLemmas.{OfChanging, of_parts}
-use Rattle.call_effects.proofs.RowLemmas.{◌also◌}
+use Rattle.machine_model.proofs.Calling.TableLemmas.{◌also◌}
 use Rattle.call_effects.proofs.ServedLemmas.{OfPlan, OfServed}
 use Rattle.confidentiality_laws.proofs.Keeping.CallLemmas.{none_hold}
 use Rattle.interrupt_laws.proofs.IdleLemmas.{Calms, IdlesNoMore, Stood, changed_idles, forgotten_stood, freed_stood, idle_at, newly_stood}

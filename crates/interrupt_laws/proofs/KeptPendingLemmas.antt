@@ -15,7 +15,7 @@ use Rattle.machine_model.specs.State.Threads.{put_thread}
 use Rattle.machine_model.specs.Stepping.Interrupts.{is_claim_of}
 use Rattle.call_effects.specs.Footprints.{ClaimsPart, Part, PendingPart, footprint, names}
 use Rattle.call_effects.proofs.PartLemmas.{OfChanging, of_parts}
-use Rattle.call_effects.proofs.RowLemmas.{◌also◌}
+use Rattle.machine_model.proofs.Calling.TableLemmas.{◌also◌}
 use Rattle.call_effects.proofs.ServedLemmas.{OfServed}
 use Rattle.interrupt_laws.proofs.CallQuietLemmas.{call_quiet}
 use Rattle.interrupt_laws.proofs.QuietLemmas.{OutcomeQuiet}

@@ -1,4 +1,5 @@
 pub mod AnsweredCallLemmas
+pub mod CallRowLemmas
 pub mod CallStepLemmas
 pub mod HeapCallLemmas
 pub mod MadePageLemmas
@@ -7,6 +8,4 @@ pub mod MemoryCallStepLemmas
 pub mod PageChangeLemmas
 pub mod RunRefusalLemmas
 pub mod ThreadCallLemmas
-pub mod ThreadCallStepLemmas
 pub mod ThreadMakingLemmas
-pub mod ThreadMakingStepLemmas

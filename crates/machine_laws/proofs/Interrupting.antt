@@ -1,5 +1,4 @@
 pub mod IrqClaimLemmas
 pub mod IrqDeliveryLemmas
 pub mod IrqHandlerLemmas
-pub mod IrqStepLemmas
 pub mod TimedLemmas

@@ -1,3 +1,4 @@
 pub mod ArgumentLemmas
 pub mod MapRowLemmas
 pub mod RefusalLemmas
+pub mod TableLemmas

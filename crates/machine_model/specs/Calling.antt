@@ -2,5 +2,7 @@
 pub mod Calls
 pub mod InterruptCalls
 pub mod MemoryCalls
+pub mod Questions
 pub mod ServerCalls
+pub mod Tables
 pub mod ThreadCalls

@@ -1,7 +1,7 @@
 //! Laws of calls, of servers that end, and of events.
 
 ghost use Rattle.std.specs.Prelude.{ℕ, ◌≡◌, ◌<◌, ◌==◌, ◌||◌, Bool, true, false, List, None, Some, map};
-ghost use Rattle.std.specs.List.{list_any};
+ghost use Rattle.std.specs.List.{AllByRecursion, list_any};
 ghost use Rattle.syscall_codec.specs.CallNumbers.{call_numbers};
 ghost use Rattle.xk_base.specs.declared.ids.Number.{Number};
 ghost use Rattle.xk_base.specs.declared.ids.Pid.{Pid};
@@ -12,6 +12,7 @@ ghost use Rattle.ledger_model.specs.Ledger.{Ledger};
 ghost use Rattle.ledger_model.specs.Loans.{IsFresh, loans, same_number};
 ghost use Rattle.ledger_model.specs.Steps.{end_loan, orphan_loan};
 ghost use Rattle.machine_model.specs.Calling.Calls.{call_at, call_table};
+ghost use Rattle.machine_model.specs.Calling.Questions.{asked, questions};
 ghost use Rattle.machine_model.specs.State.Changes.{Retried, call_settled, only};
 ghost use Rattle.machine_model.specs.Ending.Closing.{close, closed};
 ghost use Rattle.machine_model.specs.Ending.Ends.{death, forgotten};
@@ -29,8 +30,7 @@ ghost use Rattle.machine_model.specs.Messaging.ReturnCalls.{return_memory_call, 
 ghost use Rattle.machine_model.specs.Messaging.SendCalls.{send_call, try_send_call};
 ghost use Rattle.machine_model.specs.Calling.ServerCalls.{create_server_call, connect_call, try_connect_call, destroy_call};
 ghost use Rattle.machine_model.specs.State.Servers.{messages_of};
-ghost use Rattle.machine_model.specs.Calling.ThreadCalls.{yield_call, create_call, join_call, terminate_call, thread_id_call};
-ghost use Rattle.machine_model.specs.Calling.ThreadCalls.{process_id_call};
+ghost use Rattle.machine_model.specs.Calling.ThreadCalls.{yield_call, create_call, join_call, terminate_call};
 ghost use Rattle.machine_model.specs.State.Threads.{both_answers};
 
 /// Every number of a call has its row in the table, in the order of the numbers.
@@ -63,8 +63,7 @@ pub fn each_number_means_its_call()
     ensures try_receive_call { (m : Machine) (w : List ℕ) → call_at 28 call_table m w ≡ try_receive_call m w }
     ensures join_call { (m : Machine) (w : List ℕ) → call_at 36 call_table m w ≡ join_call m w }
     ensures destroy_call { (m : Machine) (w : List ℕ) → call_at 41 call_table m w ≡ destroy_call m w }
-    ensures thread_id_call { (m : Machine) (w : List ℕ) → call_at 42 call_table m w ≡ thread_id_call m w }
-    ensures process_id_call { (m : Machine) (w : List ℕ) → call_at 43 call_table m w ≡ process_id_call m w }
+    ensures questions { AllByRecursion (λ row. (m : Machine) (w : List ℕ) → call_at row.0 call_table m w ≡ asked row.1 m w) questions }
     ensures forward_call { (m : Machine) (w : List ℕ) → call_at 44 call_table m w ≡ forward_call m w }
 {}
 

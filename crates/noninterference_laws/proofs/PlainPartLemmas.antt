@@ -22,7 +22,7 @@ use Rattle.machine_laws.proofs.Calling.RunRefusalLemmas.{not_false}
 use Rattle.machine_laws.proofs.Threading.ThreadStepLemmas.{turned_to}
 use Rattle.call_effects.specs.Footprints.{ClaimsPart, PendingPart, ProcessesPart, names}
 use Rattle.call_effects.proofs.PartLemmas.{OfChanging, of_parts}
-use Rattle.call_effects.proofs.RowLemmas.{◌also◌}
+use Rattle.machine_model.proofs.Calling.TableLemmas.{◌also◌}
 use Rattle.call_effects.proofs.ServedLemmas.{OfServed}
 use Rattle.confidentiality_laws.proofs.Keeping.CallLemmas.{none_hold}
 use Rattle.noninterference_laws.proofs.OtherLemmas.{apart_pid, same_pid}

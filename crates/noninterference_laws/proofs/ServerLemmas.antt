@@ -44,7 +44,7 @@ use Rattle.call_effects.specs.Rows.ServerRows.{create_server_row, destroy_row}
 use Rattle.call_effects.specs.Rows.ThreadRows.{terminate_row}
 use Rattle.call_effects.specs.Verdicts.{Plan, Verdict, answers_caller, answers_nobody}
 use Rattle.call_effects.proofs.PartLemmas.{OfChanging, of_parts}
-use Rattle.call_effects.proofs.RowLemmas.{◌also◌}
+use Rattle.machine_model.proofs.Calling.TableLemmas.{◌also◌}
 use Rattle.call_effects.proofs.ServedLemmas.{OfPlan, OfServed, done}
 use Rattle.confidentiality_laws.proofs.Keeping.CallLemmas.{none_hold}
 use Rattle.noninterference_laws.proofs.Seeing.RowLemmas.{first_none, is_there, own_server}

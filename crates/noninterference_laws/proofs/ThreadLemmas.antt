@@ -35,16 +35,18 @@ use Rattle.machine_model.specs.State.Servers.{server_at, is_own, is_server_of, w
 use Rattle.machine_model.specs.State.Threads.{answer_to, thread_id, with_state}
 use Rattle.machine_laws.proofs.Calling.RunRefusalLemmas.{not_false}
 use Rattle.machine_laws.proofs.Threading.ThreadStepLemmas.{turned_to}
-use Rattle.call_effects.specs.Deciding.{decide, rows}
+use Rattle.call_effects.specs.Deciding.{decide, rows, unhandled_row}
 use Rattle.call_effects.specs.Effects.{Waits, run}
 use Rattle.call_effects.specs.Rows.InterruptRows.{claim_row, free_row}
 use Rattle.call_effects.specs.Rows.MemoryRows.{decrease_row, increase_row, map_row, unmap_row, update_row}
-use Rattle.call_effects.specs.Rows.MessageRows.{arrival_answers, passed_if, receive_row, return_memory_row, return_scalar1_row, return_scalar2_row, sent_row, sent_to_row, taken_or, try_receive_row}
+use Rattle.call_effects.specs.Rows.MessageRows.{forward_row, arrival_answers, passed_if, receive_row, return_memory_row, return_scalar1_row, return_scalar2_row, sent_row, sent_to_row, taken_or, try_receive_row}
 use Rattle.call_effects.specs.Rows.ServerRows.{connect_row, create_server_row, destroy_row, try_connect_row}
-use Rattle.call_effects.specs.Rows.ThreadRows.{create_row, join_row, process_id_row, terminate_row, thread_id_row, yield_row}
+use Rattle.machine_model.specs.Calling.Questions.{questions}
+use Rattle.call_effects.specs.Rows.QuestionRows.{question_row}
+use Rattle.call_effects.specs.Rows.ThreadRows.{create_row, join_row, terminate_row, yield_row}
 use Rattle.call_effects.specs.Verdicts.{Plan, Row, Verdict, answers_caller, answers_nobody}
 use Rattle.call_effects.proofs.MeantLemmas.{calls_meant}
-use Rattle.call_effects.proofs.RowLemmas.{OfRows, of_row, ◌also◌}
+use Rattle.machine_model.proofs.Calling.TableLemmas.{OfRows, of_questions, of_row, ◌also◌}
 use Rattle.call_effects.proofs.ServedLemmas.{OfPlan, OfServed, done, of_both, of_plan}
 use Rattle.noninterference_laws.proofs.InstructionLemmas.{other_thread}
 use Rattle.confidentiality_laws.proofs.Keeping.CallLemmas.{none_hold}
@@ -301,15 +303,16 @@ module _ (m : Machine) (who : ThreadId) (w : List ℕ) where
           (answers_caller here plain_words []) (λ id other. (rw (other_thread id who other) refl, refl))))
           also (λ e. quiet (join_row here w) (λ none id other. (refl, rw (other_thread id who other) refl)))
           also (λ e. destroy_threads)
-          also (λ e. quiet (thread_id_row here w) (λ id other. (rw (other_thread id who other) refl, refl)))
-          also (λ e. quiet (process_id_row here w) (λ id other. (rw (other_thread id who other) refl, refl)))
-          also (λ e none found. passed_keeps (unwrap_or (next_arrival here (passed_number w) (forward_cid w)) (record { 0 = 0 })) e
+          also of_questions (λ number. true) OfCall question_row
+          (λ number question e. quiet (question_row question here w) (λ id other. (rw (other_thread id who other) refl, refl))) questions
+          ((forward_message, forward_row) ∷ [])
+          ((λ e none found. passed_keeps (unwrap_or (next_arrival here (passed_number w) (forward_cid w)) (record { 0 = 0 })) e
           (none_hold (forward_refusals here (passed_number w) (forward_cid w)) none).1.0 (passable here (passed_number w)) refl)
-          also tt
+          also tt)
 
       pub call_threads : OfServed (KeepsThreads doing) (call here w)
       unfolding decide
       call_threads =
           subst (OfServed (KeepsThreads doing)) (sym (calls_meant here w))
           (of_plan (KeepsThreads doing) here (decide here w)
-          (λ none. of_row (λ number. true) OfCall (call_number w) refl (λ same. tt) rows each refl))
+          (λ none. of_row (λ number. true) OfCall (call_number w) refl unhandled_row (λ same. tt) rows each refl))

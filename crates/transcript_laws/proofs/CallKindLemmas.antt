@@ -1,6 +1,6 @@
 -- Each served call is of one of the kinds.
 use Rattle.std.proofs.Common.{◌≡◌, ℕ, ◌<◌, Bool, true, false, List, [], ◌∷◌, ◌++◌, Option, Some, None, refl, sym, ap, ◌∙◌, subst, arith}
-use Rattle.std.specs.Prelude.{◌==◌, ◌&&◌, is_none, is_some, slice_index, unwrap_or, ◌+◌, nat_le, ◌/◌, ◌-◌}
+use Rattle.std.specs.Prelude.{◌==◌, ◌&&◌, not, is_none, is_some, slice_index, unwrap_or, ◌+◌, nat_le, ◌/◌, ◌-◌}
 use Rattle.std.specs.Option.{option_and_then, option_map_or}
 use Rattle.std.proofs.lemmas.Bool.{and_parts, eq-eqb, eqb-true, false≢true}
 use Rattle.std.proofs.lemmas.Option.{none-some}
@@ -21,7 +21,7 @@ use Rattle.xk_base.proofs.CountingLemmas.{least_below-passes}
 use Rattle.syscall_codec.specs.CallNumbers.{create_server_with_address, destroy_server, forward_message, receive_message, reply_message, return_memory, return_scalar1}
 use Rattle.syscall_codec.specs.CallNumbers.{return_scalar2, send_message, try_receive_message, try_send_message}
 use Rattle.syscall_codec.specs.CallWords.{call_number, forward_cid, return_address, return_size, send_cid}
-use Rattle.syscall_codec.specs.ReplyWords.{connection_words, plain_words, range_words, scalar1_words, thread_words}
+use Rattle.syscall_codec.specs.ReplyWords.{connection_words, plain_words, range_words, thread_words}
 use Rattle.machine_model.specs.Calling.Calls.{call}
 use Rattle.machine_model.specs.Calling.ThreadCalls.{create_refusals, free_tid}
 use Rattle.syscall_codec.specs.CallWords.{thread_entry}
@@ -41,14 +41,17 @@ use Rattle.machine_model.specs.State.Servers.{is_full, is_own, is_server_of, ser
 use Rattle.machine_model.specs.State.Threads.{answer_to, both_answers, thread_id}
 use Rattle.machine_laws.proofs.Calling.RunRefusalLemmas.{not_false}
 use Rattle.confidentiality_laws.proofs.Keeping.CallLemmas.{none_hold}
-use Rattle.call_effects.specs.Deciding.{decide, rows}
+use Rattle.call_effects.specs.Deciding.{decide, rows, unhandled_row}
 use Rattle.call_effects.specs.Effects.{Effect, Returned, Serves}
 use Rattle.call_effects.specs.Rows.MessageRows.{forward_row, passed_if, return_memory_row, sent_to_row, taken_or}
 use Rattle.call_effects.specs.Rows.ServerRows.{create_server_row, destroy_row}
 use Rattle.call_effects.specs.Verdicts.{Does, Plan, Row}
 use Rattle.call_effects.proofs.HeldLemmas.{is_held}
 use Rattle.call_effects.proofs.MeantLemmas.{calls_meant}
-use Rattle.call_effects.proofs.RowLemmas.{OfRows, ◌also◌, of_row}
+use Rattle.std.specs.List.{list_all}
+use Rattle.machine_model.specs.Calling.Questions.{Question, questions, with_questions}
+use Rattle.call_effects.specs.Rows.QuestionRows.{question_row}
+use Rattle.machine_model.proofs.Calling.TableLemmas.{OfRows, ◌also◌, of_row}
 use Rattle.call_effects.proofs.ServedLemmas.{OfPlan, OfServed, done, of_both, of_plan}
 use Rattle.loan_laws.proofs.Fates.ServedFateLemmas.{some_of}
 use Rattle.transcript_laws.specs.CallKinds.{AreOwn, ByWaiting, CallKind, CallsAreOfKinds, DestroysServer, EndsProcess, FindsNone, FoundsServer, IsOfKind, IsPassing, IsReturning, IsSending}
@@ -65,7 +68,7 @@ use Rattle.machine_model.specs.Calling.InterruptCalls.{claim_refusals, free_refu
 use Rattle.machine_model.specs.Calling.MemoryCalls.{caller_place, decrease_refusals, heap_limit, heap_of, heap_start, increase_refusals, map_refusals, unmap_refusals, update_refusals}
 use Rattle.machine_model.specs.Calling.ServerCalls.{connect_refusals, is_missing}
 use Rattle.machine_model.specs.Stepping.Interrupts.{is_claim_of}
-use Rattle.std.proofs.lemmas.Bool.{ltb-false}
+use Rattle.std.proofs.lemmas.Bool.{ltb-false, not-true}
 use Rattle.std.specs.Option.{option_map}
 use Rattle.syscall_codec.specs.CallNumbers.{claim_interrupt, decrease_heap, free_interrupt, increase_heap, map_memory, unmap_memory, update_memory_flags}
 use Rattle.syscall_codec.specs.CallWords.{heap_bytes, interrupt_handler, interrupt_number, map_flags, map_phys, map_size, map_virt, range_address, range_flags, range_size}
@@ -395,6 +398,19 @@ module _ (m : Machine) (h : Matched m) (w : List ℕ) where
   destroys : OfNumber destroy_server destroy_row
   destroys none = let its = names_own none in subst (λ s. CallKind m destroy_server w (destroying m s)) (named_is its) (DestroysServer refl its)
 
+  -- calls that only ask, whose numbers are of no other kind and whose answers are no messages
+  abbrev only_asks : ℕ × Question → Bool
+  only_asks row = not (reaches_others row.0) && not (is_receive row.0) && not (slice_index (row.1 m) 0 == reply_message)
+
+  questions_keep : (asking : List (ℕ × Question)) → list_all only_asks asking ≡ true → (others : List (ℕ × Row))
+      → OfRows (λ k. true) OfNumber others → OfRows (λ k. true) OfNumber (with_questions question_row asking others)
+  questions_keep [] e others of = of
+  questions_keep (row ∷ more) e others of =
+      let both = and_parts (only_asks row) (list_all only_asks more) e in
+      let ends = and_parts (not (reaches_others row.0) && not (is_receive row.0)) (not (slice_index (row.1 m) 0 == reply_message)) both.0 in
+      let test = and_parts (not (reaches_others row.0)) (not (is_receive row.0)) ends.0 in
+      (keeps (not-true _ test.0) (not-true _ test.1) (row.1 m) (not-true _ ends.1) tt, questions_keep more both.1 others of)
+
   each : OfRows (λ k. true) OfNumber rows
   each =
       maps
@@ -421,15 +437,12 @@ module _ (m : Machine) (h : Matched m) (w : List ℕ) where
       also receives try_receive_message refl
       also (λ none. Keeps _ _ refl refl (record { own = ((refl, tt), tt); answered = ByWaiting _ }))
       also destroys
-      also keeps refl refl (thread_words _) refl tt
-      also keeps refl refl (scalar1_words _) refl tt
-      also forwards
-      also tt
+      also questions_keep questions refl ((forward_message, forward_row) ∷ []) (forwards also tt)
 
   -- the plan of a served call has a kind
   pub plan_kind : OfPlan (CallKind m (call_number w) w) (decide m w)
   unfolding decide
-  plan_kind = λ none. of_row (λ k. true) OfNumber (call_number w) refl tt rows each
+  plan_kind = λ none. of_row (λ k. true) OfNumber (call_number w) refl unhandled_row tt rows each
 
   -- what holds of each kind holds of each served call
   pub of_kinds : (P : Change → Type 0) → ((plan : Plan) → CallKind m (call_number w) w plan → P (done m plan)) → OfServed P (call m w)

@@ -3,7 +3,6 @@ pub mod CallTableLemmas
 pub mod CallerLemmas
 pub mod CreateLemmas
 pub mod DestroyLemmas
-pub mod EveryCallLemmas
 pub mod JoinLemmas
 pub mod JoinerLemmas
 pub mod JoiningLemmas

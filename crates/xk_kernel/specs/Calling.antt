@@ -11,9 +11,9 @@ use Rattle.machine_model.specs.State.Order.{ready_at}
 use Rattle.machine_model.specs.State.Threads.{answer_to}
 use Rattle.sv32_space.specs.Tie.{Held}
 use Rattle.syscall_codec.specs.Replies.{words_of}
-use Rattle.syscall_codec.specs.CallNumbers.{map_memory, yield_turn, claim_interrupt, free_interrupt, increase_heap, decrease_heap}
-use Rattle.syscall_codec.specs.CallNumbers.{update_memory_flags, create_server_with_address, connect, create_thread, unmap_memory}
-use Rattle.syscall_codec.specs.CallNumbers.{try_connect, join_thread, get_thread_id, get_process_id}
+use Rattle.syscall_codec.specs.CallNumbers.{receive_message, send_message, return_memory, terminate_process, try_send_message}
+use Rattle.syscall_codec.specs.CallNumbers.{return_scalar1, return_scalar2, try_receive_message, destroy_server, forward_message}
+use Rattle.syscall_codec.specs.CallNumbers.{is_call_number}
 use Rattle.syscall_codec.specs.CallWords.{call_number, is_refused_to_handler}
 use Rattle.syscall_codec.specs.ReplyWords.{connection_words}
 use Rattle.xk_base.specs.Tables.Connections.{cid_for, has_room}
@@ -41,15 +41,15 @@ pub record IsCaller {W : Type 0} (S : SwapStore W) (k : Kernel W) : Type 0 where
 abbrev pub is_refused_caller : Machine → List ℕ → Bool
 is_refused_caller m words = m.cursor.tid.0 == 1 && is_refused_to_handler words
 
--- the numbers of the calls whose caller is answered once they are served: all but those on messages, and those that end a process
--- or a server
-abbrev pub plain_numbers : List ℕ
-plain_numbers =
-    map_memory ∷ yield_turn ∷ claim_interrupt ∷ free_interrupt ∷ increase_heap ∷ decrease_heap ∷ update_memory_flags
-    ∷ create_server_with_address ∷ connect ∷ create_thread ∷ unmap_memory ∷ try_connect ∷ join_thread ∷ get_thread_id ∷ get_process_id ∷ []
+-- the numbers of the calls on messages, and of those that end a process or a server
+abbrev pub other_numbers : List ℕ
+other_numbers =
+    receive_message ∷ send_message ∷ return_memory ∷ terminate_process ∷ try_send_message ∷ return_scalar1 ∷ return_scalar2
+    ∷ try_receive_message ∷ destroy_server ∷ forward_message ∷ []
 
+-- the number of any other call: its caller is answered once it is served
 abbrev pub is_plain_number : ℕ → Bool
-is_plain_number k = list_any (λ n. n == k) plain_numbers
+is_plain_number k = is_call_number k && not (list_any (λ n. n == k) other_numbers)
 
 abbrev pub is_plain_call : List ℕ → Bool
 is_plain_call words = is_plain_number (call_number words)

@@ -31,12 +31,12 @@ use Rattle.machine_model.specs.Messaging.ReturnCalls.{holder_of}
 use Rattle.machine_model.specs.Messaging.SendCalls.{arrival, arrival_refusals, is_full_for, named_kind, send_refusals, sends_lend_mut, sends_pages, sent_pages}
 use Rattle.machine_model.specs.State.Machine.{Machine, Receiving}
 use Rattle.machine_model.specs.State.Servers.{live_servers, server_at, with_sid}
-use Rattle.call_effects.specs.Deciding.{decide, rows}
+use Rattle.call_effects.specs.Deciding.{decide, rows, unhandled_row}
 use Rattle.call_effects.specs.Effects.{Maps, Pages, Waits}
 use Rattle.call_effects.specs.Rows.MemoryRows.{decrease_row, increase_row, map_row, unmap_row, update_row}
 use Rattle.call_effects.specs.Rows.MessageRows.{forward_row, passed_if, receive_row, send_row, sent_row, sent_to_row, taken_or, try_receive_row, try_send_row}
 use Rattle.call_effects.specs.Verdicts.{RefusedIf, RetriedIf, Row, Verdict, answers_caller, answers_nobody}
-use Rattle.call_effects.proofs.RowLemmas.{OfRows, ◌also◌, of_row}
+use Rattle.machine_model.proofs.Calling.TableLemmas.{OfRows, ◌also◌, of_row}
 use Rattle.call_effects.proofs.Viewing.BareTestLemmas.{any_free_bare, any_lacks_bare, any_not_sent_bare, any_on_loan_bare}
 use Rattle.call_effects.proofs.Viewing.BareTestLemmas.{console_mapped_bare, least_run_bare, pages_bare, used_bare}
 use Rattle.call_effects.proofs.MeantLemmas.{calls_meant}
@@ -364,7 +364,7 @@ pub decide_view : (m : Machine) (w : List ℕ) → decide m w ≡ decide (call_v
 unfolding decide
 decide_view m w =
     ap (RefusedIf (any_refusals m w))
-    (of_row (λ number. true) (λ number row. IsAlike row) (call_number w) refl (λ m w. refl) rows table_alike m w)
+    (of_row (λ number. true) (λ number row. IsAlike row) (call_number w) refl unhandled_row (λ m w. refl) rows table_alike m w)
 
 pub decide_same_view : (m n : Machine) (w : List ℕ) → call_view m ≡ call_view n → decide m w ≡ decide n w
 decide_same_view m n w e = decide_view m w ∙ (ap (λ x. decide x w) e ∙ sym (decide_view n w))

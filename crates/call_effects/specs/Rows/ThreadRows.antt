@@ -2,7 +2,7 @@
 use Rattle.std.specs.Prelude.{ℕ, Bool, unwrap_or, [], ◌∷◌, Some}
 use Rattle.xk_base.specs.declared.ids.Pid.{Pid}
 use Rattle.syscall_codec.specs.CallWords.{join_tid, thread_arguments, thread_entry, thread_sp}
-use Rattle.syscall_codec.specs.ReplyWords.{plain_words, scalar1_words, thread_words}
+use Rattle.syscall_codec.specs.ReplyWords.{plain_words, thread_words}
 use Rattle.machine_model.specs.Calling.ThreadCalls.{create_refusals, free_tid, join_refusals}
 use Rattle.machine_model.specs.Ending.Closing.{is_sender_at, refused_server}
 use Rattle.machine_model.specs.State.Machine.{Joining, Machine}
@@ -43,11 +43,3 @@ death_plan pid m =
 -- TerminateProcess: the caller's process dies
 abbrev pub terminate_row : Row
 terminate_row m w = Does (death_plan m.cursor.pid m)
-
--- GetThreadId
-abbrev pub thread_id_row : Row
-thread_id_row m w = answers_caller m (thread_words m.cursor.tid.0) []
-
--- GetProcessId
-abbrev pub process_id_row : Row
-process_id_row m w = answers_caller m (scalar1_words m.cursor.pid.0) []

@@ -14,7 +14,7 @@ use Rattle.machine_model.proofs.Runs.KeptLemmas.{matched_at}
 use Rattle.machine_laws.proofs.Threading.ThreadStepLemmas.{acted_call, step_ledger, turned_to}
 use Rattle.call_effects.specs.Footprints.{LedgerPart, names}
 use Rattle.call_effects.proofs.PartLemmas.{OfChanging, of_parts}
-use Rattle.call_effects.proofs.RowLemmas.{◌also◌}
+use Rattle.machine_model.proofs.Calling.TableLemmas.{◌also◌}
 use Rattle.call_effects.proofs.ServedLemmas.{OfServed}
 use Rattle.confidentiality_laws.proofs.Keeping.CallLemmas.{CallKeepsBytes, KeepsBytes, settled_ledger}
 use Rattle.confidentiality_laws.proofs.Keeping.EndingCallLemmas.{destroy_keeps, return_memory_keeps, terminate_keeps}

@@ -10,7 +10,7 @@ use Rattle.machine_model.specs.State.Changes.{Change, Outcome, Refused, Retried,
 use Rattle.machine_model.specs.State.Machine.{Machine}
 use Rattle.call_effects.specs.Footprints.{ClaimsPart, ComparePart, Part, footprint, names}
 use Rattle.call_effects.proofs.PartLemmas.{OfChanging, of_parts}
-use Rattle.call_effects.proofs.RowLemmas.{◌also◌}
+use Rattle.machine_model.proofs.Calling.TableLemmas.{◌also◌}
 use Rattle.call_effects.proofs.ServedLemmas.{OfServed}
 use Rattle.interrupt_laws.proofs.Fates.ClaimFateLemmas.{FateOf, Kept, OutcomeFate, as_before, claim_fate, free_fate, terminate_fate}
 

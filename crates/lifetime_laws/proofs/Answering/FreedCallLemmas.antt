@@ -15,7 +15,7 @@ use Rattle.xk_base.specs.declared.messages.MsgKind.TheVariants.{Scalar}
 use Rattle.syscall_codec.specs.CallWords.{call_number, join_tid, thread_arguments, thread_entry, thread_sp}
 use Rattle.xk_base.specs.Calls.Kinds.{is_answered}
 use Rattle.xk_base.specs.Tables.Circle.{same_thread}
-use Rattle.call_effects.specs.Deciding.{decide, rows}
+use Rattle.call_effects.specs.Deciding.{decide, rows, unhandled_row}
 use Rattle.call_effects.specs.Effects.{Waits}
 use Rattle.call_effects.specs.Footprints.{ThreadsPart, footprints}
 use Rattle.call_effects.specs.Rows.MessageRows.{taken_or}
@@ -23,7 +23,7 @@ use Rattle.call_effects.specs.Rows.ThreadRows.{create_row, terminate_row}
 use Rattle.call_effects.specs.Verdicts.{Row, answers_nobody}
 use Rattle.call_effects.proofs.FootprintLemmas.{calls_leave_the_rest}
 use Rattle.call_effects.proofs.MeantLemmas.{calls_meant}
-use Rattle.call_effects.proofs.RowLemmas.{OfRows, of_row, ◌also◌}
+use Rattle.machine_model.proofs.Calling.TableLemmas.{OfRows, of_row, ◌also◌}
 use Rattle.call_effects.proofs.ServedLemmas.{OfPlan, OfServed, done, of_plan}
 use Rattle.machine_laws.proofs.Calling.ThreadCallLemmas.{two_passed}
 use Rattle.machine_laws.proofs.Threading.ThreadPutLemmas.{alike}
@@ -124,7 +124,7 @@ module _ (m : Machine) (w : List ℕ) (id : ThreadId) (waits : is_waiting (m.thr
   unfolding decide
   by_row is =
       subst (OfServed Leaves) (sym (calls_meant m w))
-      (of_plan Leaves m (decide m w) (λ none. of_row is_threads OfCall (call_number w) is tt rows each))
+      (of_plan Leaves m (decide m w) (λ none. of_row is_threads OfCall (call_number w) is unhandled_row tt rows each))
 
   pub call_leaves : (change : Change) → call m w ≡ Served change → Leaves change
   call_leaves change e = go (is_threads (call_number w)) refl

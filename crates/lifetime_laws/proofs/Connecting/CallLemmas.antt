@@ -28,7 +28,7 @@ use Rattle.machine_laws.proofs.Threading.ThreadStepLemmas.{turned_to}
 use Rattle.call_effects.specs.Footprints.{ProcessesPart, names}
 use Rattle.call_effects.specs.Rows.ServerRows.{connect_row, create_server_row, try_connect_row}
 use Rattle.call_effects.proofs.PartLemmas.{OfChanging, of_parts}
-use Rattle.call_effects.proofs.RowLemmas.{◌also◌}
+use Rattle.machine_model.proofs.Calling.TableLemmas.{◌also◌}
 use Rattle.call_effects.proofs.ServedLemmas.{OfPlan, OfServed, done}
 use Rattle.confidentiality_laws.proofs.Keeping.CallLemmas.{none_hold}
 use Rattle.loan_laws.proofs.Fates.LikeLemmas.{IsLike, call_like, served_like}

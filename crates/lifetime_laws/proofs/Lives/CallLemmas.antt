@@ -26,7 +26,7 @@ use Rattle.machine_laws.proofs.Threading.ThreadStepLemmas.{actor_ready, turned_t
 use Rattle.call_effects.specs.Footprints.{LedgerPart, names}
 use Rattle.call_effects.specs.Rows.ThreadRows.{terminate_row}
 use Rattle.call_effects.proofs.PartLemmas.{OfChanging, of_parts}
-use Rattle.call_effects.proofs.RowLemmas.{◌also◌}
+use Rattle.machine_model.proofs.Calling.TableLemmas.{◌also◌}
 use Rattle.call_effects.proofs.ServedLemmas.{OfPlan, OfServed, done}
 use Rattle.loan_laws.proofs.Fates.LikeLemmas.{IsLike, call_like, like_both, served_like}
 use Rattle.loan_laws.proofs.Fates.ServedFateLemmas.{IsCaller}

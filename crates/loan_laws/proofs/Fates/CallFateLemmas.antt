@@ -26,7 +26,7 @@ use Rattle.call_effects.specs.Rows.MemoryRows.{decrease_row, increase_row, map_r
 use Rattle.call_effects.specs.Rows.ThreadRows.{terminate_row}
 use Rattle.call_effects.specs.Verdicts.{Verdict}
 use Rattle.call_effects.proofs.PartLemmas.{OfChanging, of_parts}
-use Rattle.call_effects.proofs.RowLemmas.{◌also◌}
+use Rattle.machine_model.proofs.Calling.TableLemmas.{◌also◌}
 use Rattle.call_effects.proofs.ServedLemmas.{OfPlan, OfServed, done, of_both}
 use Rattle.loan_laws.specs.Fates.{Fate}
 use Rattle.loan_laws.specs.Leaving.{Leaves}

@@ -12,7 +12,7 @@ use Rattle.machine_laws.proofs.Calling.HeapCallLemmas.{decrease_keeps, increase_
 use Rattle.machine_laws.proofs.Calling.MapCallLemmas.{map_keeps}
 use Rattle.machine_laws.proofs.Calling.MemoryCallStepLemmas.{unmap_keeps, update_keeps}
 use Rattle.machine_laws.proofs.Calling.ThreadCallLemmas.{call_keeps}
-use Rattle.machine_laws.proofs.Calling.ThreadCallStepLemmas.{KeepsNumber, StepKeeps, step_of_number}
+use Rattle.machine_laws.proofs.Calling.CallRowLemmas.{KeepsNumber}
 
 -- ---- the calls on memory
 
@@ -21,17 +21,17 @@ pub of_call : (k : ℕ) (served : Call) → ((m : Machine) (w : List ℕ) → ca
     → ((m : Machine) (w : List ℕ) → Matched m → ready_at m m.cursor ≡ true → Keeps m (served m w)) → KeepsNumber k
 of_call k served same keep m h ready w e = call_keeps m h ready w k e (λ none. subst (Keeps m) (sym (same m w)) (keep m w h ready))
 
-pub map_step : StepKeeps map_memory
-map_step = step_of_number 2 (of_call 2 map_call (λ m w. refl) map_keeps)
+pub map_number_keeps : KeepsNumber map_memory
+map_number_keeps = of_call 2 map_call (λ m w. refl) map_keeps
 
-pub increase_step : StepKeeps increase_heap
-increase_step = step_of_number 10 (of_call 10 increase_call (λ m w. refl) increase_keeps)
+pub increase_number_keeps : KeepsNumber increase_heap
+increase_number_keeps = of_call 10 increase_call (λ m w. refl) increase_keeps
 
-pub decrease_step : StepKeeps decrease_heap
-decrease_step = step_of_number 11 (of_call 11 decrease_call (λ m w. refl) decrease_keeps)
+pub decrease_number_keeps : KeepsNumber decrease_heap
+decrease_number_keeps = of_call 11 decrease_call (λ m w. refl) decrease_keeps
 
-pub update_step : StepKeeps update_memory_flags
-update_step = step_of_number 12 (of_call 12 update_call (λ m w. refl) update_keeps)
+pub update_number_keeps : KeepsNumber update_memory_flags
+update_number_keeps = of_call 12 update_call (λ m w. refl) update_keeps
 
-pub unmap_step : StepKeeps unmap_memory
-unmap_step = step_of_number 19 (of_call 19 unmap_call (λ m w. refl) unmap_keeps)
+pub unmap_number_keeps : KeepsNumber unmap_memory
+unmap_number_keeps = of_call 19 unmap_call (λ m w. refl) unmap_keeps

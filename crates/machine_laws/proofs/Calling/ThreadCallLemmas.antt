@@ -7,16 +7,19 @@ use Rattle.xk_base.specs.declared.errors.XousError.{XousError}
 use Rattle.xk_base.specs.declared.errors.XousError.TheVariants.{InvalidSyscall, UnhandledSyscall}
 use Rattle.syscall_codec.specs.CallNumbers.{is_call_number}
 use Rattle.syscall_codec.specs.CallWords.{call_number, is_refused_to_handler}
-use Rattle.syscall_codec.specs.ReplyWords.{plain_words, thread_words, scalar1_words}
-use Rattle.machine_model.specs.Calling.Calls.{call, call_at, call_table, any_refusals}
+use Rattle.syscall_codec.specs.ReplyWords.{plain_words}
+use Rattle.machine_model.specs.Calling.Calls.{call, call_at, call_table, any_refusals, unhandled_call}
 use Rattle.machine_model.specs.State.Changes.{Outcome, Served, answering, first_refusal, refused_or, unless_refused}
 use Rattle.machine_model.specs.State.Machine.{Machine}
 use Rattle.machine_model.specs.Runs.Matched.{Matched}
 use Rattle.machine_model.specs.State.Order.{ready_at, turn}
-use Rattle.machine_model.specs.Calling.ThreadCalls.{yield_call, thread_id_call, process_id_call}
+use Rattle.machine_model.specs.Calling.ThreadCalls.{yield_call}
+use Rattle.machine_model.specs.Calling.Questions.{Question, asked}
 use Rattle.machine_model.specs.State.Threads.{answer_to}
 use Rattle.machine_model.proofs.Runs.KeptLemmas.{turn_keeps}
 use Rattle.machine_laws.proofs.Calling.AnsweredCallLemmas.{Keeps, refused_keeps}
+use Rattle.machine_model.specs.State.Changes.{Refused}
+use Rattle.machine_laws.proofs.Calling.CallRowLemmas.{Means}
 use Rattle.machine_laws.proofs.Threading.ThreadAnswerLemmas.{answered_call}
 use Rattle.machine_laws.proofs.Threading.ThreadStepLemmas.{settles}
 
@@ -68,13 +71,9 @@ module _ (m : Machine) (h : Matched m) (ready : ready_at m m.cursor ≡ true) (w
   unfolding yield_call turn
   yield_keeps = answered_keeps m (turn m) plain_words (turn_keeps m h) ready (omega arith)
 
-  thread_id_keeps : Keeps m (thread_id_call m w)
-  unfolding thread_id_call
-  thread_id_keeps = answered_keeps m m (thread_words m.cursor.tid.0) h ready (omega arith)
-
-  process_id_keeps : Keeps m (process_id_call m w)
-  unfolding process_id_call
-  process_id_keeps = answered_keeps m m (scalar1_words m.cursor.pid.0) h ready (omega arith)
+  question_keeps : (question : Question) → Keeps m (asked question m w)
+  unfolding asked
+  question_keeps question = answered_keeps m m (question m) h ready (omega arith)
 
   -- ---- the table
 
@@ -87,8 +86,11 @@ module _ (m : Machine) (h : Matched m) (ready : ready_at m m.cursor ≡ true) (w
   pub yield_number_keeps : call_number w ≡ 3 → Keeps m (call m w)
   yield_number_keeps e = call_keeps 3 e (λ none. yield_keeps)
 
-  pub thread_id_number_keeps : call_number w ≡ 42 → Keeps m (call m w)
-  thread_id_number_keeps e = call_keeps 42 e (λ none. thread_id_keeps)
+  pub question_number_keeps : (n : ℕ) (question : Question) → Means n (asked question) → call_number w ≡ n → Keeps m (call m w)
+  question_number_keeps n question means e =
+      subst (Keeps m) (sym (means m w e)) (unless_refused_keeps m h (any_refusals m w) (asked question m w) (λ none. question_keeps question))
 
-  pub process_id_number_keeps : call_number w ≡ 43 → Keeps m (call m w)
-  process_id_number_keeps e = call_keeps 43 e (λ none. process_id_keeps)
+  pub unhandled_number_keeps : (n : ℕ) → Means n unhandled_call → call_number w ≡ n → Keeps m (call m w)
+  unhandled_number_keeps n means e =
+      subst (Keeps m) (sym (means m w e))
+      (unless_refused_keeps m h (any_refusals m w) (Refused UnhandledSyscall) (λ none. refused_keeps m UnhandledSyscall h))

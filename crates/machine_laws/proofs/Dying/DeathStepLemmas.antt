@@ -1,40 +1,32 @@
 -- A process dies by TerminateProcess, or as its last thread above tid 1 ends. Where its death keeps the machine matched, they do.
-use Rattle.std.proofs.Common.{◌≡◌, ℕ, Bool, true, false, List, Option, Some, None, refl, sym, ap, ◌∙◌, subst}
+use Rattle.std.proofs.Common.{◌≡◌, ℕ, Bool, true, false, Option, Some, None, refl, sym, ap, ◌∙◌, subst}
 use Rattle.std.specs.Prelude.{◌==◌, if◌then◌else◌}
 use Rattle.std.specs.Option.{option_map, option_or}
 use Rattle.std.proofs.lemmas.Bool.{and_left, eq-eqb}
 use Rattle.xk_base.specs.declared.ids.Pid.{Pid}
 use Rattle.xk_base.specs.declared.ids.ThreadId.{ThreadId}
 use Rattle.syscall_codec.specs.CallNumbers.{terminate_process}
-use Rattle.syscall_codec.specs.CallWords.{call_number}
 use Rattle.xk_base.specs.Tables.Circle.{same_thread}
 use Rattle.xk_base.specs.Tables.Counting.{put_at}
 use Rattle.syscall_codec.specs.ReplyWords.{scalar1_words}
-use Rattle.machine_model.specs.Stepping.Acts.{call_by}
-use Rattle.machine_model.specs.Calling.Calls.{call}
-use Rattle.machine_model.specs.State.Changes.{Change, call_settled, settled}
+use Rattle.machine_model.specs.State.Changes.{Change, Served, Told, call_settled, settled}
 use Rattle.machine_model.specs.Ending.Closing.{any_server, closed, servers_closed, senders_queued_gone, senders_held_gone}
 use Rattle.machine_model.specs.Ending.Ends.{death, forgotten, thread_ended, has_threads, end_with_last_thread, joiners_answered, waits_for_end}
 use Rattle.machine_model.specs.State.Machine.{Machine, Thread}
 use Rattle.machine_model.specs.Runs.Kept.{Settles}
-use Rattle.machine_model.specs.Runs.Matched.{Matched}
-use Rattle.machine_model.specs.State.Order.{actor}
-use Rattle.machine_model.specs.Stepping.Step.{step}
 use Rattle.machine_model.specs.Calling.ThreadCalls.{terminate_call}
 use Rattle.machine_model.specs.State.Threads.{Answers, put_thread, change_thread, passed, give_answers, both_answers, with_answer}
-use Rattle.machine_model.proofs.Runs.KeptLemmas.{matched_at}
 use Rattle.machine_laws.proofs.Dying.DeathLemmas.{death_keeps}
-use Rattle.machine_laws.proofs.Calling.AnsweredCallLemmas.{Keeps}
+use Rattle.machine_laws.proofs.Calling.CallRowLemmas.{KeepsNumber}
 use Rattle.machine_laws.proofs.Calling.ThreadCallLemmas.{call_keeps}
 use Rattle.machine_laws.proofs.Threading.ThreadPutLemmas.{alike}
-use Rattle.machine_laws.proofs.Threading.ThreadStepLemmas.{turned_to, actor_ready, call_step_keeps}
 
 -- the death of the process keeps the machine matched
 abbrev pub DeathKeeps : Pid → Machine → Type 0
 DeathKeeps pid m = Settles m (settled (death pid m)).machine
 
 -- no thread of the dead process is left
-dead_threads : (pid : Pid) (m : Machine) (id : ThreadId) → (death pid m).machine.threads id ≡ (if id.pid.0 == pid.0 then None else m.threads id)
+pub dead_threads : (pid : Pid) (m : Machine) (id : ThreadId) → (death pid m).machine.threads id ≡ (if id.pid.0 == pid.0 then None else m.threads id)
 unfolding death servers_closed closed senders_queued_gone senders_held_gone forgotten
 dead_threads pid m id = refl
 
@@ -53,21 +45,19 @@ passes_nobody m = λ i. record left { threads = λ id. same id (same_thread id m
     same id false e = refl
     same id true e = ap (option_map passed) gone ∙ sym gone ∙ sym (ap left.threads (alike id m.cursor e))
 
-terminate_keeps : (m : Machine) (w : List ℕ) → DeathKeeps m.cursor.pid m → Keeps m (terminate_call m w)
-unfolding terminate_call call_settled
-terminate_keeps m w d =
-    subst (λ left. Settles m (settled (record (death m.cursor.pid m) { machine = left })).machine) (sym (passes_nobody m)) d
+-- what settles of the call is what settles of the death
+pub terminate_settles : (m : Machine) → call_settled m (Served (death m.cursor.pid m)) ≡ settled (death m.cursor.pid m)
+unfolding call_settled
+terminate_settles m = ap (λ left. settled (record (death m.cursor.pid m) { machine = left })) (passes_nobody m)
 
-terminate_step : (m : Machine) (who : ThreadId) (w : List ℕ) → Matched m → actor m ≡ Some who → call_by m who ≡ Some w
-    → call_number w ≡ terminate_process → DeathKeeps who.pid (turned_to who m) → Matched (step m).machine
-terminate_step m who w h e c number d =
-    let k : Keeps (turned_to who m) (call (turned_to who m) w) =
-    call_keeps (turned_to who m) (matched_at who m h) (actor_ready m who e) w 22 number (λ none. terminate_keeps (turned_to who m) w d) in
-    call_step_keeps m who w e c k
+pub terminate_number_keeps : KeepsNumber terminate_process
+unfolding terminate_call
+terminate_number_keeps m h ready w e =
+    call_keeps m h ready w 22 e (λ none. subst (λ (t : Told). Settles m t.machine) (sym (terminate_settles m)) (death_keeps m h m.cursor.pid))
 
 -- ---- the last thread
 
-same_death : (who : ThreadId) (m : Machine) → death who.pid (put_thread who None m) ≡ death who.pid m
+pub same_death : (who : ThreadId) (m : Machine) → death who.pid (put_thread who None m) ≡ death who.pid m
 unfolding death any_server servers_closed closed senders_queued_gone senders_held_gone forgotten
 same_death who m = λ i. record (death who.pid m) { machine = record (death who.pid m).machine { threads = λ id. same id (id.pid.0 == who.pid.0) refl i } }
   where
@@ -109,12 +99,3 @@ last_keeps m who a0 last d =
   where
     left_by : Change → Machine
     left_by left = give_answers (both_answers (joiners_answered m who a0) left.answers) left.machine
-
--- ---- as steps
-
-module _ (m : Machine) (h : Matched m) (who : ThreadId) (e : actor m ≡ Some who) where
-  dies : DeathKeeps who.pid (turned_to who m)
-  dies = death_keeps (turned_to who m) (matched_at who m h) who.pid
-
-  pub terminates : (w : List ℕ) → call_by m who ≡ Some w → call_number w ≡ terminate_process → Matched (step m).machine
-  terminates w c number = terminate_step m who w h e c number dies

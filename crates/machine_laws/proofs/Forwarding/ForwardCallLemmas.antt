@@ -41,7 +41,7 @@ use Rattle.machine_laws.proofs.Calling.CallStepLemmas.{of_call}
 use Rattle.machine_laws.proofs.Returning.GivenBackLemmas.{found_at}
 use Rattle.machine_laws.proofs.Calling.RunRefusalLemmas.{none_holds}
 use Rattle.machine_laws.proofs.Calling.ThreadCallLemmas.{one_passed, unless_refused_keeps}
-use Rattle.machine_laws.proofs.Calling.ThreadCallStepLemmas.{StepKeeps, step_of_number}
+use Rattle.machine_laws.proofs.Calling.CallRowLemmas.{KeepsNumber}
 use Rattle.machine_laws.proofs.Messaging.AnsweredThreadLemmas.{answered}
 use Rattle.machine_laws.proofs.Forwarding.ForwardedListLemmas.{others_of}
 use Rattle.machine_laws.proofs.Forwarding.ForwardedMessageLemmas.{IsPassed, forwarded, forwarded_matched, lend_carries}
@@ -433,5 +433,5 @@ module _ (m : Machine) (w : List ℕ) (h : Matched m) (ready : ready_at m m.curs
           (λ found. forwarded_keeps m h ready (passed_number w) (forward_cid w) first
           (is_forward m (passed_number w) (forward_cid w) first none e))
 
-pub forward_step : StepKeeps forward_message
-forward_step = step_of_number 44 (of_call 44 forward_call (λ m w. refl) forward_keeps)
+pub forward_number_keeps : KeepsNumber forward_message
+forward_number_keeps = of_call 44 forward_call (λ m w. refl) forward_keeps

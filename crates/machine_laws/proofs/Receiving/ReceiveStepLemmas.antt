@@ -6,7 +6,6 @@ use Rattle.std.proofs.lemmas.Bool.{eqb-true, false≢true}
 use Rattle.xk_base.specs.declared.errors.XousError.TheVariants.{ServerNotFound}
 use Rattle.xk_base.specs.declared.ids.Serial.{Serial}
 use Rattle.xk_base.specs.declared.messages.Message.{Message}
-use Rattle.syscall_codec.specs.CallNumbers.{receive_message, try_receive_message}
 use Rattle.syscall_codec.specs.CallWords.{call_number}
 use Rattle.xk_base.specs.Tables.Counting.{put_at}
 use Rattle.syscall_codec.specs.ReplyWords.{message_words, plain_words}
@@ -26,7 +25,6 @@ use Rattle.xk_base.specs.declared.ids.Sid.{Sid}
 use Rattle.machine_laws.proofs.Calling.AnsweredCallLemmas.{Keeps}
 use Rattle.machine_laws.proofs.Calling.RunRefusalLemmas.{not_false}
 use Rattle.machine_laws.proofs.Calling.ThreadCallLemmas.{answered_keeps, call_keeps, not_handler, one_passed, unless_refused_keeps}
-use Rattle.machine_laws.proofs.Calling.ThreadCallStepLemmas.{StepKeeps, step_of_number}
 use Rattle.machine_laws.proofs.Messaging.OneServerLemmas.{now}
 use Rattle.machine_laws.proofs.Receiving.ReceiveWaitLemmas.{wait_keeps}
 use Rattle.machine_laws.proofs.Receiving.ReceivedMessageLemmas.{gone_matched, held_matched}
@@ -119,14 +117,8 @@ module _ (m : Machine) (h : Matched m) (ready : ready_at m m.cursor ≡ true) wh
     unfolding try_receive_call
     try_receive_keeps = try_receive_named_keeps (named_sid w)
 
-    receive_number_keeps : call_number w ≡ 15 → Keeps m (call m w)
+    pub receive_number_keeps : call_number w ≡ 15 → Keeps m (call m w)
     receive_number_keeps e = call_keeps m h ready w 15 e (λ none. receive_keeps (not_handler m w none (rw e refl)))
 
-    try_receive_number_keeps : call_number w ≡ 28 → Keeps m (call m w)
+    pub try_receive_number_keeps : call_number w ≡ 28 → Keeps m (call m w)
     try_receive_number_keeps e = call_keeps m h ready w 28 e (λ none. try_receive_keeps)
-
-pub receive_step : StepKeeps receive_message
-receive_step = step_of_number 15 receive_number_keeps
-
-pub try_receive_step : StepKeeps try_receive_message
-try_receive_step = step_of_number 28 try_receive_number_keeps

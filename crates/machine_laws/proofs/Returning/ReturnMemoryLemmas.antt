@@ -6,7 +6,6 @@ use Rattle.std.proofs.lemmas.Bool.{and_parts, eqb-true}
 use Rattle.xk_base.specs.declared.errors.XousError.TheVariants.{BadAddress, DoubleFree}
 use Rattle.xk_base.specs.declared.ids.Number.{Number}
 use Rattle.xk_base.specs.declared.messages.Message.{Message}
-use Rattle.syscall_codec.specs.CallNumbers.{return_memory}
 use Rattle.syscall_codec.specs.CallWords.{call_number, return_address, return_offset, return_size, return_valid}
 use Rattle.syscall_codec.specs.ReplyWords.{returned_words}
 use Rattle.ledger_model.specs.Steps.{end_loan}
@@ -21,7 +20,6 @@ use Rattle.machine_model.proofs.Messaging.LoanSetLemmas.{only_one_ends}
 use Rattle.machine_laws.proofs.Calling.AnsweredCallLemmas.{Keeps}
 use Rattle.machine_laws.proofs.Returning.GivenBackLemmas.{EndsAs, given_back_keeps}
 use Rattle.machine_laws.proofs.Calling.ThreadCallLemmas.{call_keeps, two_passed, unless_refused_keeps}
-use Rattle.machine_laws.proofs.Calling.ThreadCallStepLemmas.{StepKeeps, step_of_number}
 
 lend_number : (number : Number) (x : Message) → is_lend_of number x ≡ true → is_of_number number x ≡ true
 lend_number number x e = (and_parts (is_of_number number x) (is_lend x.kind) e).0
@@ -48,6 +46,3 @@ module _ (m : Machine) (h : Matched m) (ready : ready_at m m.cursor ≡ true) (w
 
   pub return_number_keeps : call_number w ≡ 20 → Keeps m (call m w)
   return_number_keeps e = call_keeps m h ready w 20 e (λ none. return_keeps)
-
-pub return_memory_step : StepKeeps return_memory
-return_memory_step = step_of_number 20 return_number_keeps

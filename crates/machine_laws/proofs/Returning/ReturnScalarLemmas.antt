@@ -20,7 +20,7 @@ use Rattle.machine_laws.proofs.Calling.AnsweredCallLemmas.{Keeps}
 use Rattle.machine_laws.proofs.Calling.CallStepLemmas.{of_call}
 use Rattle.machine_laws.proofs.Returning.GivenBackLemmas.{EndsAs, given_back_keeps}
 use Rattle.machine_laws.proofs.Calling.ThreadCallLemmas.{one_passed, unless_refused_keeps}
-use Rattle.machine_laws.proofs.Calling.ThreadCallStepLemmas.{StepKeeps, step_of_number}
+use Rattle.machine_laws.proofs.Calling.CallRowLemmas.{KeepsNumber}
 use Rattle.machine_laws.proofs.Returning.NoLoanLemmas.{nothing_ends}
 
 scalar_no_lend : (kind : MsgKind) → is_blocking_scalar kind ≡ true → is_lend kind ≡ false
@@ -57,8 +57,8 @@ module _ (m : Machine) (w : List ℕ) (h : Matched m) (ready : ready_at m m.curs
   unfolding return_scalar2_call
   scalar2_keeps = scalar_keeps (scalar2_words (return_value1 w) (return_value2 w))
 
-pub return_scalar1_step : StepKeeps return_scalar1
-return_scalar1_step = step_of_number 26 (of_call 26 return_scalar1_call (λ m w. refl) scalar1_keeps)
+pub return_scalar1_number_keeps : KeepsNumber return_scalar1
+return_scalar1_number_keeps = of_call 26 return_scalar1_call (λ m w. refl) scalar1_keeps
 
-pub return_scalar2_step : StepKeeps return_scalar2
-return_scalar2_step = step_of_number 27 (of_call 27 return_scalar2_call (λ m w. refl) scalar2_keeps)
+pub return_scalar2_number_keeps : KeepsNumber return_scalar2
+return_scalar2_number_keeps = of_call 27 return_scalar2_call (λ m w. refl) scalar2_keeps

@@ -11,7 +11,6 @@ use Rattle.xk_base.specs.declared.ids.Vpn.{Vpn}
 use Rattle.xk_base.specs.declared.messages.MsgKind.{MsgKind}
 use Rattle.xk_base.specs.declared.messages.MsgKind.TheVariants.{Scalar}
 use Rattle.xk_base.specs.declared.windows.Window.TheVariants.{Message as MessageWindow}
-use Rattle.syscall_codec.specs.CallNumbers.{send_message, try_send_message}
 use Rattle.syscall_codec.specs.CallWords.{call_number, send_address, send_cid, send_kind, send_length}
 use Rattle.xk_base.specs.Tables.Connections.{connected_to}
 use Rattle.xk_base.specs.Calls.Kinds.{is_waiting_kind, kind_at, is_answered}
@@ -33,7 +32,6 @@ use Rattle.machine_laws.proofs.Calling.AnsweredCallLemmas.{Keeps, retried_keeps}
 use Rattle.machine_laws.proofs.Sending.SendCallLemmas.{arrives, arrives_keeps}
 use Rattle.machine_laws.proofs.Sending.SendLedgerLemmas.{IsAccepted, sent_ledger_is}
 use Rattle.machine_laws.proofs.Calling.ThreadCallLemmas.{call_keeps, not_handler, one_passed, unless_refused_keeps}
-use Rattle.machine_laws.proofs.Calling.ThreadCallStepLemmas.{StepKeeps, step_of_number}
 
 -- ---- refusals
 
@@ -168,18 +166,12 @@ module _ (m : Machine) (h : Matched m) (ready : ready_at m m.cursor ≡ true) (w
       ServerNotFound InvalidSyscall BadAlignment BadAddress ShareViolation ((is_full_for m w, ServerQueueFull) ∷ []) none in
       sent_to_keeps ((is_full_for m w, ServerQueueFull) ∷ []) none (one_passed (is_full_for m w) ServerQueueFull p.5) above)
 
-  send_number_keeps : call_number w ≡ 16 → Keeps m (call m w)
+  pub send_number_keeps : call_number w ≡ 16 → Keeps m (call m w)
   send_number_keeps e =
       call_keeps m h ready w 16 e (λ none. send_keeps (λ kind named answered.
       not_handler m w none (rw e refl)))
 
-  try_send_number_keeps : call_number w ≡ 24 → Keeps m (call m w)
+  pub try_send_number_keeps : call_number w ≡ 24 → Keeps m (call m w)
   try_send_number_keeps e =
       call_keeps m h ready w 24 e (λ none. try_send_keeps (λ kind named answered.
       not_handler m w none (rw e (waiting_kind (send_kind w) kind named answered))))
-
-pub send_step : StepKeeps send_message
-send_step = step_of_number 16 send_number_keeps
-
-pub try_send_step : StepKeeps try_send_message
-try_send_step = step_of_number 24 try_send_number_keeps

@@ -23,7 +23,7 @@ use Rattle.machine_laws.proofs.Calling.CallStepLemmas.{of_call}
 use Rattle.machine_laws.proofs.Serving.ConnectionLemmas.{caller_connected}
 use Rattle.machine_laws.proofs.Calling.RunRefusalLemmas.{not_false}
 use Rattle.machine_laws.proofs.Calling.ThreadCallLemmas.{answered_keeps, one_passed, two_passed, unless_refused_keeps}
-use Rattle.machine_laws.proofs.Calling.ThreadCallStepLemmas.{StepKeeps, step_of_number}
+use Rattle.machine_laws.proofs.Calling.CallRowLemmas.{KeepsNumber}
 use Rattle.machine_laws.proofs.Threading.ThreadAnswerLemmas.{ready_lives}
 
 -- a server that is found by its identifier has a serial below the next
@@ -68,8 +68,8 @@ module _ (m : Machine) (w : List ℕ) (h : Matched m) (ready : ready_at m m.curs
       two_passed (is_missing m sid) (not (has_room (named_server m sid) (own_connections m))) ServerNotFound InvalidLimit none in
       served_keeps passed.0 passed.1)
 
-pub connect_step : StepKeeps connect
-connect_step = step_of_number 17 (of_call 17 connect_call (λ m w. refl) connect_keeps)
+pub connect_number_keeps : KeepsNumber connect
+connect_number_keeps = of_call 17 connect_call (λ m w. refl) connect_keeps
 
-pub try_connect_step : StepKeeps try_connect
-try_connect_step = step_of_number 25 (of_call 25 try_connect_call (λ m w. refl) try_connect_keeps)
+pub try_connect_number_keeps : KeepsNumber try_connect
+try_connect_number_keeps = of_call 25 try_connect_call (λ m w. refl) try_connect_keeps

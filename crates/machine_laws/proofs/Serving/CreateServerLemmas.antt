@@ -19,7 +19,7 @@ use Rattle.machine_laws.proofs.Calling.CallStepLemmas.{of_call}
 use Rattle.machine_laws.proofs.Serving.ConnectionLemmas.{caller_connected}
 use Rattle.machine_laws.proofs.Calling.RunRefusalLemmas.{not_false}
 use Rattle.machine_laws.proofs.Calling.ThreadCallLemmas.{three_passed, unless_refused_keeps}
-use Rattle.machine_laws.proofs.Calling.ThreadCallStepLemmas.{StepKeeps, step_of_number}
+use Rattle.machine_laws.proofs.Calling.CallRowLemmas.{KeepsNumber}
 use Rattle.machine_laws.proofs.Serving.NewServerLemmas.{server_settles}
 use Rattle.machine_laws.proofs.Threading.ThreadAnswerLemmas.{answered_call, ready_lives}
 
@@ -47,5 +47,5 @@ module _ (m : Machine) (w : List ℕ) (h : Matched m) (ready : ready_at m m.curs
       ServerExists InvalidLimit InvalidLimit none in
       served_keeps passed.0 passed.1 passed.2)
 
-pub create_server_step : StepKeeps create_server_with_address
-create_server_step = step_of_number 14 (of_call 14 create_server_call (λ m w. refl) create_server_keeps)
+pub create_server_number_keeps : KeepsNumber create_server_with_address
+create_server_number_keeps = of_call 14 create_server_call (λ m w. refl) create_server_keeps

@@ -8,7 +8,6 @@ use Rattle.xk_base.specs.declared.ids.Number.{Number}
 use Rattle.xk_base.specs.declared.ids.Serial.{Serial}
 use Rattle.xk_base.specs.declared.ids.Sid.{Sid}
 use Rattle.xk_base.specs.declared.ids.ThreadId.{ThreadId}
-use Rattle.syscall_codec.specs.CallNumbers.{destroy_server}
 use Rattle.syscall_codec.specs.CallWords.{call_number}
 use Rattle.xk_base.specs.Tables.Circle.{same_thread}
 use Rattle.xk_base.specs.Tables.Counting.{put_at}
@@ -25,7 +24,6 @@ use Rattle.machine_model.specs.State.Order.{is_ready, ready_at}
 use Rattle.machine_model.specs.State.Threads.{Answers, answer_to, both_answers, passed, with_answer}
 use Rattle.machine_laws.proofs.Calling.AnsweredCallLemmas.{Keeps}
 use Rattle.machine_laws.proofs.Calling.ThreadCallLemmas.{call_keeps, unless_refused_keeps}
-use Rattle.machine_laws.proofs.Calling.ThreadCallStepLemmas.{StepKeeps, step_of_number}
 use Rattle.machine_laws.proofs.Messaging.AnsweredThreadLemmas.{answered}
 use Rattle.machine_laws.proofs.Messaging.ClosedServerLemmas.{closed_below, emptied, no_sender, receiver_is_no_sender, same_servers, sender_where_closed}
 use Rattle.machine_laws.proofs.Messaging.RemovalLemmas.{IsRemoval, removed_above, removed_body}
@@ -169,6 +167,3 @@ module _ (m : Machine) (h : Matched m) (ready : ready_at m m.cursor ≡ true) (w
 
   pub destroy_number_keeps : call_number w ≡ 41 → Keeps m (call m w)
   destroy_number_keeps e = call_keeps m h ready w 41 e (λ none. destroy_keeps)
-
-pub destroy_step : StepKeeps destroy_server
-destroy_step = step_of_number 41 destroy_number_keeps

@@ -1,7 +1,6 @@
 -- The cursor stays the id of a thread of the processes by every call and every step.
 use Rattle.std.proofs.Common.{◌≡◌, ℕ, Bool, true, false, List, [], ◌∷◌, ◌++◌, Option, Some, None, refl, sym, ap, ◌∙◌, subst}
 use Rattle.std.specs.Prelude.{nat_eq, unwrap_or}
-use Rattle.std.specs.List.{AllByRecursion}
 use Rattle.xk_base.specs.declared.errors.XousError.{XousError}
 use Rattle.xk_base.specs.declared.errors.XousError.TheVariants.{ServerNotFound, ServerQueueFull, UnhandledSyscall}
 use Rattle.xk_base.specs.declared.ids.Number.{Number}
@@ -13,7 +12,6 @@ use Rattle.xk_base.specs.declared.limits.TheConstants.{TIMER_INTERRUPT}
 use Rattle.xk_base.specs.declared.messages.Message.{Message}
 use Rattle.xk_base.specs.declared.messages.MsgKind.{MsgKind}
 use Rattle.xk_base.specs.declared.messages.MsgKind.TheVariants.{Scalar}
-use Rattle.syscall_codec.specs.CallNumbers.{call_numbers, is_call_number}
 use Rattle.syscall_codec.specs.CallWords.{call_number, forward_cid, heap_bytes, interrupt_argument, interrupt_handler, interrupt_number}
 use Rattle.syscall_codec.specs.CallWords.{join_tid, map_flags, map_phys, map_size, map_virt, range_address, range_flags, range_size}
 use Rattle.syscall_codec.specs.CallWords.{return_address, return_offset, return_size, return_valid, return_value1, return_value2}
@@ -22,15 +20,19 @@ use Rattle.xk_base.specs.Tables.Circle.{is_pid, is_thread_id}
 use Rattle.xk_base.specs.Tables.Counting.{put_at}
 use Rattle.xk_base.specs.Calls.Kinds.{is_answered}
 use Rattle.xk_base.specs.Calls.Registers.{arguments_of, reg_at}
-use Rattle.syscall_codec.specs.ReplyWords.{plain_words, scalar1_words, scalar2_words, thread_words}
+use Rattle.syscall_codec.specs.CallNumbers.{forward_message}
+use Rattle.syscall_codec.specs.ReplyWords.{plain_words, scalar1_words, scalar2_words}
 use Rattle.xk_base.specs.Tables.Sids.{serial_of}
 use Rattle.xk_base.proofs.CircleLemmas.{next_id-valid}
 use Rattle.ledger_model.specs.Steps.{pass}
 use Rattle.machine_model.specs.Calling.Calls.{any_refusals, call, call_at, call_table}
+use Rattle.machine_model.specs.Calling.Questions.{Question, asked, questions}
+use Rattle.machine_model.proofs.Calling.TableLemmas.{OfRows, of_questions, of_row, ◌also◌}
+use Rattle.machine_model.specs.Calling.Calls.{unhandled_call}
 use Rattle.machine_model.specs.Calling.InterruptCalls.{claim_call, claim_refusals, claim_served, free_call, free_refusals, free_served}
 use Rattle.machine_model.specs.Calling.MemoryCalls.{caller_place, decrease_call, decrease_refusals, decrease_served, increase_call, increase_refusals, increase_served, map_call, map_refusals, map_served, unmap_call, unmap_refusals, unmap_served, update_call, update_refusals, update_served}
 use Rattle.machine_model.specs.Calling.ServerCalls.{connect_call, connect_refusals, connect_served, create_server_call, create_server_refusals, create_server_served, destroy_call, destroy_served, is_missing, named_server, named_sid, own_server_refusals, try_connect_call}
-use Rattle.machine_model.specs.Calling.ThreadCalls.{create_call, create_refusals, create_served, join_call, join_refusals, join_served, process_id_call, terminate_call, thread_id_call, yield_call}
+use Rattle.machine_model.specs.Calling.ThreadCalls.{create_call, create_refusals, create_served, join_call, join_refusals, join_served, terminate_call, yield_call}
 use Rattle.machine_model.specs.Ending.Closing.{closed, destroyed, senders_held_gone, senders_queued_gone, servers_closed}
 use Rattle.machine_model.specs.Ending.Ends.{death, end_with_last_thread, forgotten, handler_ended, has_threads, thread_ended}
 use Rattle.machine_model.specs.Hart.Instructions.{Executed, Next, Stores, StoresToConsole, StoresToTimer, CallsKernel, Traps}
@@ -43,7 +45,7 @@ use Rattle.machine_model.specs.Messaging.SendCalls.{arrival, arrival_refusals, a
 use Rattle.machine_model.specs.Runs.Kept.{AllKeepCursor, KeepsCursor}
 use Rattle.machine_model.specs.Runs.Matched.{Matched}
 use Rattle.machine_model.specs.Runs.Moments.{ByStep}
-use Rattle.machine_model.specs.State.Changes.{Change, Outcome, Refused, Retried, Served, Told, answering, call_settled, first_refusal, refused_or, settled, unless_refused, unless_retried}
+use Rattle.machine_model.specs.State.Changes.{Call, Change, Outcome, Refused, Retried, Served, Told, answering, call_settled, first_refusal, refused_or, settled, unless_refused, unless_retried}
 use Rattle.machine_model.specs.State.Machine.{Claim, Idle, Machine, Thread}
 use Rattle.machine_model.specs.State.Order.{actor, next_ready, ready_at, turn}
 use Rattle.machine_model.specs.State.Servers.{change_server}
@@ -55,8 +57,7 @@ use Rattle.machine_model.specs.Stepping.Timer.{is_due, raised_by_timer, timed, t
 use Rattle.machine_model.proofs.State.CursorLemmas.{all_keep_cursor}
 use Rattle.machine_model.proofs.StepLemmas.{no_step}
 use Rattle.machine_model.proofs.Runs.TimerLemmas.{timed_raised}
-use Rattle.machine_laws.proofs.Stepping.EveryStepLemmas.{every_step_keeps, turned_list}
-use Rattle.machine_laws.proofs.Stepping.CallNumberLemmas.{in_list, outside_refused}
+use Rattle.machine_laws.proofs.Stepping.EveryStepLemmas.{every_step_keeps}
 use Rattle.machine_laws.proofs.Stepping.CauseCaseLemmas.{ActCase, EndsHandler, EndsThread, Instructs, StartCase, Starts, StartsNone, act_of, start_of}
 use Rattle.machine_laws.proofs.Threading.ThreadStepLemmas.{step_of_thread, turned_to}
 
@@ -154,13 +155,9 @@ module _ (m : Machine) (c : Stands m) (w : List ℕ) where
   unfolding yield_call
   yield_stands = served_stands m c (answering (answer_to m.cursor plain_words) (turn m)) (turn_stands m c)
 
-  thread_id_stands : StandsBy m (thread_id_call m w)
-  unfolding thread_id_call
-  thread_id_stands = served_stands m c (answering (answer_to m.cursor (thread_words m.cursor.tid.0)) m) c
-
-  process_id_stands : StandsBy m (process_id_call m w)
-  unfolding process_id_call
-  process_id_stands = served_stands m c (answering (answer_to m.cursor (scalar1_words m.cursor.pid.0)) m) c
+  question_stands : (question : Question) → StandsBy m (asked question m w)
+  unfolding asked
+  question_stands question = served_stands m c (answering (answer_to m.cursor (question m)) m) c
 
   create_stands : StandsBy m (create_call m w)
   unfolding create_call
@@ -277,79 +274,41 @@ module _ (m : Machine) (c : Stands m) (w : List ℕ) where
 
   -- ---- any
 
-  every_number_stands : AllByRecursion (λ k. StandsBy m (call_at k call_table m w)) call_numbers
-  every_number_stands = (
-    map_stands,
-    (
-      yield_stands,
-      (
-        claim_stands,
-        (
-          free_stands,
-          (
-            increase_stands,
-            (
-              decrease_stands,
-              (
-                update_stands,
-                (
-                  create_server_stands,
-                  (
-                    receive_stands,
-                    (
-                      send_stands,
-                      (
-                        connect_stands,
-                        (
-                          create_stands,
-                          (
-                            unmap_stands,
-                            (
-                              return_memory_stands,
-                              (
-                                terminate_stands,
-                                (
-                                  try_send_stands,
-                                  (
-                                    try_connect_stands,
-                                    (
-                                      return_scalar1_stands,
-                                      (
-                                        return_scalar2_stands,
-                                        (
-                                          try_receive_stands,
-                                          (join_stands, (destroy_stands, (thread_id_stands, (process_id_stands, (forward_stands, tt))))),
-                                        ),
-                                      ),
-                                    ),
-                                  ),
-                                ),
-                              ),
-                            ),
-                          ),
-                        ),
-                      ),
-                    ),
-                  ),
-                ),
-              ),
-            ),
-          ),
-        ),
-      ),
-    ),
-  )
+  abbrev RowStands : ℕ → Call → Type 0
+  RowStands n served = StandsBy m (served m w)
+
+  every_row_stands : OfRows (λ n. true) RowStands call_table
+  every_row_stands =
+      map_stands
+      also yield_stands
+      also claim_stands
+      also free_stands
+      also increase_stands
+      also decrease_stands
+      also update_stands
+      also create_server_stands
+      also receive_stands
+      also send_stands
+      also connect_stands
+      also create_stands
+      also unmap_stands
+      also return_memory_stands
+      also terminate_stands
+      also try_send_stands
+      also try_connect_stands
+      also return_scalar1_stands
+      also return_scalar2_stands
+      also try_receive_stands
+      also join_stands
+      also destroy_stands
+      also of_questions (λ n. true) RowStands asked (λ n question. question_stands question) questions
+      ((forward_message, forward_call) ∷ []) (forward_stands also tt)
 
   call_stands : StandsBy m (call m w)
   unfolding call
-  call_stands = go (is_call_number (call_number w)) refl
-    where
-      go : (b : Bool) → is_call_number (call_number w) ≡ b → StandsBy m (unless_refused (any_refusals m w) (call_at (call_number w) call_table m w))
-      go true e =
-          either_stands m c (any_refusals m w) (call_at (call_number w) call_table m w)
-          (in_list (λ k. StandsBy m (call_at k call_table m w)) (call_number w) call_numbers every_number_stands
-          (turned_list (call_number w) call_numbers e))
-      go false e = subst (StandsBy m) (sym (outside_refused m w e)) (refused_stands m c UnhandledSyscall)
+  call_stands =
+      either_stands m c (any_refusals m w) (call_at (call_number w) call_table m w)
+      (of_row (λ n. true) RowStands (call_number w) refl unhandled_call (refused_stands m c UnhandledSyscall) call_table every_row_stands)
 
 -- ---- what comes of a step
 

@@ -7,7 +7,7 @@ use Rattle.xk_base.specs.declared.ids.Pid.{Pid}
 use Rattle.xk_base.specs.declared.limits.TheConstants.{TID_LIMIT}
 use Rattle.syscall_codec.specs.CallWords.{thread_entry, thread_sp, thread_arguments, join_tid}
 use Rattle.xk_base.specs.Tables.Counting.{least_below}
-use Rattle.syscall_codec.specs.ReplyWords.{plain_words, thread_words, scalar1_words}
+use Rattle.syscall_codec.specs.ReplyWords.{plain_words, thread_words}
 use Rattle.machine_model.specs.State.Changes.{Change, Served, Call, only, answering, unless_refused}
 use Rattle.machine_model.specs.Ending.Ends.{death}
 use Rattle.machine_model.specs.State.Machine.{Machine, Joining}
@@ -64,11 +64,3 @@ join_call m w = unless_refused (join_refusals m (join_tid w)) (Served (join_serv
 
 unfoldable pub terminate_call : Call
 terminate_call m w = Served (death m.cursor.pid m)
-
--- ---- GetThreadId and GetProcessId
-
-unfoldable pub thread_id_call : Call
-thread_id_call m w = Served (answering (answer_to m.cursor (thread_words m.cursor.tid.0)) m)
-
-unfoldable pub process_id_call : Call
-process_id_call m w = Served (answering (answer_to m.cursor (scalar1_words m.cursor.pid.0)) m)

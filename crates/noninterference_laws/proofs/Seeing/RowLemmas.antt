@@ -1,6 +1,6 @@
 -- Where the pages come from that others than a group can load after a call.
 use Rattle.std.proofs.Common.{◌≡◌, ℕ, Bool, ◌&&◌, ◌||◌, true, false, List, [], ◌∷◌, ◌++◌, Option, Some, None, is_none, get_or, refl, sym, ap, ◌∙◌, subst}
-use Rattle.std.specs.Prelude.{◌+◌, ◌-◌, ◌/◌, ◌==◌, if◌then◌else◌, is_some, unwrap_or}
+use Rattle.std.specs.Prelude.{◌+◌, ◌-◌, ◌/◌, ◌==◌, is_some, unwrap_or}
 use Rattle.std.specs.Bool.{⊤}
 use Rattle.std.specs.Option.{option_and_then, option_map_or}
 use Rattle.std.proofs.lemmas.Bool.{and_parts, eqb-true, false≢true, or_parts}
@@ -18,7 +18,7 @@ use Rattle.xk_base.specs.declared.messages.MsgKind.TheVariants.{BlockingScalar, 
 use Rattle.xk_base.specs.declared.pages.LoanKind.TheVariants.{Exclusive, Shared}
 use Rattle.xk_base.specs.declared.windows.Window.TheVariants.{Message as MessageWindow}
 use Rattle.syscall_codec.specs.CallNumbers.{claim_interrupt, connect, create_server_with_address, create_thread, decrease_heap}
-use Rattle.syscall_codec.specs.CallNumbers.{destroy_server, forward_message, free_interrupt, get_process_id, get_thread_id, increase_heap}
+use Rattle.syscall_codec.specs.CallNumbers.{destroy_server, forward_message, free_interrupt, increase_heap}
 use Rattle.syscall_codec.specs.CallNumbers.{join_thread, map_memory, receive_message, return_memory, return_scalar1, return_scalar2}
 use Rattle.syscall_codec.specs.CallNumbers.{send_message, terminate_process, try_connect, try_receive_message, try_send_message}
 use Rattle.syscall_codec.specs.CallNumbers.{unmap_memory, update_memory_flags, yield_turn}
@@ -56,16 +56,19 @@ use Rattle.machine_laws.proofs.Returning.GivenBackLemmas.{found_at}
 use Rattle.machine_model.proofs.Matching.CountLemmas.{all_right}
 use Rattle.confidentiality_laws.proofs.Keeping.CallLemmas.{ledger_after, none_hold}
 use Rattle.confidentiality_laws.proofs.Keeping.MemoryCallLemmas.{HasNoHome, found_free}
-use Rattle.call_effects.specs.Deciding.{decide, row_at, rows}
+use Rattle.call_effects.specs.Deciding.{decide, row_at, rows, unhandled_row}
 use Rattle.call_effects.specs.Effects.{Sends, Waits, paged, run}
 use Rattle.call_effects.specs.Rows.InterruptRows.{claim_row, free_row}
 use Rattle.call_effects.specs.Rows.MemoryRows.{decrease_row, increase_row, map_row, unmap_row, update_row}
 use Rattle.call_effects.specs.Rows.MessageRows.{forward_row, passed_if, receive_row, return_memory_row, return_scalar1_row, return_scalar2_row, send_row, sent_row, sent_to_row, taken_or, try_receive_row, try_send_row}
 use Rattle.call_effects.specs.Rows.ServerRows.{connect_row, create_server_row, destroy_row, try_connect_row}
-use Rattle.call_effects.specs.Rows.ThreadRows.{create_row, join_row, process_id_row, terminate_row, thread_id_row, yield_row}
+use Rattle.machine_model.specs.Calling.Questions.{Question, questions}
+use Rattle.call_effects.specs.Rows.QuestionRows.{question_row}
+use Rattle.call_effects.specs.Rows.ThreadRows.{create_row, join_row, terminate_row, yield_row}
 use Rattle.call_effects.specs.Verdicts.{answers_caller, answers_nobody, Does, RefusedIf, Refuses, RetriedIf, Row, Verdict, meant}
 use Rattle.call_effects.proofs.MeantLemmas.{calls_meant}
 use Rattle.call_effects.proofs.HeldLemmas.{is_held}
+use Rattle.machine_model.proofs.Calling.TableLemmas.{OfRows, of_questions, of_row, ◌also◌}
 use Rattle.noninterference_laws.specs.Handing.{called_over, destroyed_over, forwarded_over, returned_over, handing_at, handings, no_pages}
 use Rattle.noninterference_laws.specs.Handing.{run_pages, sent_over}
 use Rattle.noninterference_laws.specs.Inside.{Group}
@@ -147,13 +150,9 @@ module _ (group : Group) where
   unfolding AllLeave
   join_hands m w h = left m no_pages (join_row m w) refl
 
-  thread_id_hands : RowHands get_thread_id thread_id_row
+  question_hands : (number : ℕ) (question : Question) → RowHands number (question_row question)
   unfolding AllLeave
-  thread_id_hands m w h = left m no_pages (thread_id_row m w) refl
-
-  process_id_hands : RowHands get_process_id process_id_row
-  unfolding AllLeave
-  process_id_hands m w h = left m no_pages (process_id_row m w) refl
+  question_hands number question m w h = left m (handing_at number handings m w) (question_row question m w) refl
 
   return_scalar1_hands : RowHands return_scalar1 return_scalar1_row
   unfolding AllLeave
@@ -396,31 +395,8 @@ module _ (group : Group) where
 
 -- ---- the table
 
-data RowsHand (group : Group) : List (ℕ × Row) → Type 0 where
-  NoRow : RowsHand group []
-  OneRow : (number : ℕ) (row : Row) (others : List (ℕ × Row)) → RowHands group number row → RowsHand group others
-      → RowsHand group ((number, row) ∷ others)
-
-infixr 5 ◌also◌
-◌also◌ : {group : Group} {number : ℕ} {row : Row} {others : List (ℕ × Row)} → RowHands group number row → RowsHand group others
-    → RowsHand group ((number, row) ∷ others)
-◌also◌ one rest = OneRow _ _ _ one rest
-
 module _ (group : Group) where
-  chosen_after : (m : Machine) (handed : PageName → Bool) (b : Bool) (x y : Verdict) → (b ≡ true → After group m handed (meant m x))
-      → After group m handed (meant m y) → After group m handed (meant m (if b then x else y))
-  chosen_after m handed true x y one rest = one refl
-  chosen_after m handed false x y one rest = rest
-
-  rows_hand : (number : ℕ) (others : List (ℕ × Row)) → RowsHand group others → (m : Machine) (w : List ℕ) → Matched m
-      → After group m (handing_at number handings m w) (meant m (row_at number others m w))
-  rows_hand number _ NoRow m w h = stay_sources group m.cursor.pid (handing_at number handings m w) m.ledger
-  rows_hand number _ (OneRow k row others one rest) m w h =
-      chosen_after m (handing_at number handings m w) (number == k) (row m w) (row_at number others m w)
-      (λ is. subst (λ j. After group m (handing_at j handings m w) (meant m (row m w))) (sym (eqb-true number k is)) (one m w h))
-      (rows_hand number others rest m w h)
-
-  table_hands : RowsHand group rows
+  table_hands : OfRows (λ number. true) (RowHands group) rows
   table_hands =
       map_hands group
       also yield_hands group
@@ -444,10 +420,8 @@ module _ (group : Group) where
       also try_receive_hands group
       also join_hands group
       also destroy_hands group
-      also thread_id_hands group
-      also process_id_hands group
-      also forward_hands group
-      also NoRow
+      also of_questions (λ number. true) (RowHands group) question_row (question_hands group) questions ((forward_message, forward_row) ∷ [])
+      (forward_hands group also tt)
 
   pub call_sources : (m : Machine) (w : List ℕ) → Matched m
       → Sources group m.cursor.pid (called_over m w) m.ledger (ledger_after m (call m w))
@@ -455,4 +429,5 @@ module _ (group : Group) where
   call_sources m w h =
       subst (λ outcome. After group m (called_over m w) outcome) (sym (calls_meant m w))
       (unless_refused_after group m (called_over m w) (any_refusals m w) (meant m (row_at (call_number w) rows m w))
-      (λ none. rows_hand (call_number w) rows table_hands m w h))
+      (λ none. of_row (λ number. true) (RowHands group) (call_number w) refl unhandled_row
+      (λ n words matched. stay_sources group n.cursor.pid (handing_at (call_number w) handings n words) n.ledger) rows table_hands m w h))

@@ -53,13 +53,15 @@ use Rattle.machine_model.specs.State.Servers.{is_server_of, server_at}
 use Rattle.machine_model.specs.State.Threads.{answer_to, both_answers, thread_id, thread_return}
 use Rattle.call_effects.specs.Effects.{Effect, Ends, Pages, Waits, arriving}
 use Rattle.call_effects.specs.Verdicts.{Does, RefusedIf, Refuses, RetriedIf, Row, Verdict, answers_caller, answers_nobody, meant}
-use Rattle.call_effects.specs.Deciding.{decide, row_at, rows}
+use Rattle.call_effects.specs.Deciding.{decide, row_at, rows, unhandled_row}
 use Rattle.call_effects.specs.Rows.InterruptRows.{claim_row, free_row}
 use Rattle.call_effects.specs.Rows.MemoryRows.{decrease_row, increase_row, map_row, unmap_row, update_row}
 use Rattle.call_effects.specs.Rows.MessageRows.{arrival_answers, forward_row, passed_if, receive_row, return_memory_row, return_scalar1_row, return_scalar2_row, returned_row, send_row, sent_row, taken_or, try_receive_row, try_send_row}
 use Rattle.call_effects.specs.Rows.ServerRows.{connect_row, create_server_row, destroy_row, try_connect_row}
-use Rattle.call_effects.specs.Rows.ThreadRows.{create_row, join_row, process_id_row, terminate_row, thread_id_row, yield_row}
+use Rattle.call_effects.specs.Rows.QuestionRows.{question_row}
+use Rattle.call_effects.specs.Rows.ThreadRows.{create_row, join_row, terminate_row, yield_row}
 use Rattle.call_effects.proofs.MeantLemmas.{calls_meant}
+use Rattle.machine_model.proofs.Calling.TableLemmas.{OfRows, of_row, ◌also◌}
 use Rattle.snapshot_laws.specs.Words.{AreFourWords, AreWords, IsMachineOfWords, IsMessageOfWords, greatest}
 use Rattle.snapshot_laws.proofs.Calling.AnswerWordLemmas.{AreAnswersOfWords, answer_are, both_are, cid_fits, fresh_are, message_are}
 use Rattle.snapshot_laws.proofs.Calling.AnswerWordLemmas.{nobody_are, plain_are, server_refused_are}
@@ -206,10 +208,10 @@ module _ (m : Machine) (w : List ℕ) (c : IsCalling m w) where
   terminate_are : IsVerdictOfWords (terminate_row m w)
   terminate_are = ((tt, (tt, (tt, (tt, tt)))), server_refused_are (is_sender_at (λ n. is_server_of m.cursor.pid (m.servers n)) m))
 
-  thread_id_are : IsVerdictOfWords (thread_id_row m w)
+  thread_id_are : IsVerdictOfWords (question_row (λ m. thread_words m.cursor.tid.0) m w)
   thread_id_are = (tt, caller (thread_words_are m.cursor.tid.0 c.tid))
 
-  process_id_are : IsVerdictOfWords (process_id_row m w)
+  process_id_are : IsVerdictOfWords (question_row (λ m. scalar1_words m.cursor.pid.0) m w)
   process_id_are = (tt, caller (eight_are (reply_scalar1 ∷ m.cursor.pid.0 ∷ []) (omega arith, (c.pid, tt))))
 
   -- ---- servers
@@ -403,63 +405,40 @@ module _ (m : Machine) (w : List ℕ) (c : IsCalling m w) where
 
   -- ---- the table
 
-  chosen_verdict : (b : Bool) (x y : Verdict) → IsVerdictOfWords x → IsVerdictOfWords y → IsVerdictOfWords (if b then x else y)
-  chosen_verdict true x y f g = f
-  chosen_verdict false x y f g = g
+  abbrev RowOfWords : ℕ → Row → Type 0
+  RowOfWords number row = IsVerdictOfWords (row m w)
 
-  abbrev AreRowsOfWords : List (ℕ × Row) → Type 0
-  AreRowsOfWords table = AllByRecursion (λ row. IsVerdictOfWords (row.1 m w)) table
-
-  rows_are : (number : ℕ) (table : List (ℕ × Row)) → AreRowsOfWords table → IsVerdictOfWords (row_at number table m w)
-  rows_are number [] f = tt
-  rows_are number (row ∷ others) f = chosen_verdict (number == row.0) (row.1 m w) (row_at number others m w) f.0 (rows_are number others f.1)
-
-  table_are : AreRowsOfWords rows
-  table_are = (
-    map_are,
-    (
-      yield_are,
-      (
-        claim_are,
-        (
-          free_are,
-          (
-            increase_are,
-            (
-              decrease_are,
-              (
-                update_are,
-                (
-                  create_server_are,
-                  (
-                    receive_are,
-                    (
-                      send_are,
-                      (
-                        connect_are,
-                        (
-                          create_are,
-                          (
-                            unmap_are,
-                            (
-                              return_memory_are,
-                              (terminate_are, (try_send_are, (try_connect_are, (return_scalar1_are, (return_scalar2_are, (try_receive_are, (join_are, (destroy_are, (thread_id_are, (process_id_are, (forward_are, tt))))))))))),
-                            ),
-                          ),
-                        ),
-                      ),
-                    ),
-                  ),
-                ),
-              ),
-            ),
-          ),
-        ),
-      ),
-    ),
-  )
+  table_are : OfRows (λ number. true) RowOfWords rows
+  table_are =
+      map_are
+      also yield_are
+      also claim_are
+      also free_are
+      also increase_are
+      also decrease_are
+      also update_are
+      also create_server_are
+      also receive_are
+      also send_are
+      also connect_are
+      also create_are
+      also unmap_are
+      also return_memory_are
+      also terminate_are
+      also try_send_are
+      also try_connect_are
+      also return_scalar1_are
+      also return_scalar2_are
+      also try_receive_are
+      also join_are
+      also destroy_are
+      also thread_id_are
+      also process_id_are
+      also forward_are
+      also tt
 
   pub called_keeps : IsOutcomeOfWords (call m w)
   unfolding decide
   called_keeps =
-      subst IsOutcomeOfWords (sym (calls_meant m w)) (verdict_keeps m (decide m w) c.machine (rows_are (call_number w) rows table_are))
+      subst IsOutcomeOfWords (sym (calls_meant m w)) (verdict_keeps m (decide m w) c.machine
+      (of_row (λ number. true) RowOfWords (call_number w) refl unhandled_row tt rows table_are))

@@ -30,7 +30,7 @@ use Rattle.machine_laws.proofs.Stepping.StepKindLemmas.{is_call}
 use Rattle.machine_laws.proofs.Threading.ThreadStepLemmas.{turned_to}
 use Rattle.call_effects.specs.Footprints.{NumberPart, footprint, names, Part}
 use Rattle.call_effects.proofs.PartLemmas.{OfChanging, of_parts}
-use Rattle.call_effects.proofs.RowLemmas.{◌also◌}
+use Rattle.machine_model.proofs.Calling.TableLemmas.{◌also◌}
 use Rattle.call_effects.proofs.ServedLemmas.{OfServed}
 use Rattle.loan_laws.proofs.Fates.LikeLemmas.{call_like, like_raised, served_like, settled_like}
 use Rattle.machine_laws.proofs.Stepping.CauseCaseLemmas.{ActCase, CauseCase, EndCase, EndsHandler, EndsThread, Instructs, IsLast, Kills, LeavesOthers, Raises, Rests, StartCase, Starts}

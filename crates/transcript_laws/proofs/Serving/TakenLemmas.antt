@@ -34,12 +34,12 @@ use Rattle.machine_model.specs.Stepping.Timer.{timed}
 use Rattle.machine_laws.proofs.Stepping.StepKindLemmas.{Executes, HandlerEnds, StepKind, ThreadEnds, acted_as_executed, kind_of}
 use Rattle.machine_laws.proofs.Threading.ThreadAnswerLemmas.{same_thread-self}
 use Rattle.machine_laws.proofs.Threading.ThreadStepLemmas.{turned_to}
-use Rattle.call_effects.specs.Deciding.{decide, rows}
+use Rattle.call_effects.specs.Deciding.{decide, rows, unhandled_row}
 use Rattle.call_effects.specs.Rows.MessageRows.{taken_or}
 use Rattle.call_effects.specs.Verdicts.{Does, Plan, RefusedIf, Refuses, RetriedIf, Row, Verdict}
 use Rattle.call_effects.proofs.FootprintLemmas.{calls_leave_the_rest}
 use Rattle.call_effects.proofs.MeantLemmas.{calls_meant}
-use Rattle.call_effects.proofs.RowLemmas.{OfRows, ◌also◌, of_row}
+use Rattle.machine_model.proofs.Calling.TableLemmas.{OfRows, ◌also◌, of_row}
 use Rattle.call_effects.proofs.ServedLemmas.{OfPlan, OfServed, done, of_plan}
 use Rattle.machine_laws.proofs.Stepping.CauseCaseLemmas.{step_is}
 use Rattle.transcript_laws.specs.Serving.{IsReceiver, is_receive, told_by}
@@ -87,7 +87,7 @@ module _ (m : Machine) (w : List ℕ) where
   unfolding decide
   received_gets is =
       subst (OfServed GetsOldest) (sym (calls_meant m w))
-      (of_plan GetsOldest m (decide m w) (λ none. of_row is_receive OfCall (call_number w) is tt rows each))
+      (of_plan GetsOldest m (decide m w) (λ none. of_row is_receive OfCall (call_number w) is unhandled_row tt rows each))
 
 -- ---- what is told of a change
 

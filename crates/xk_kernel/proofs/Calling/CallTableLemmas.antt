@@ -13,7 +13,8 @@ use Rattle.machine_model.specs.Messaging.ReceiveCalls.{receive_call, receive_ser
 use Rattle.machine_model.specs.State.Order.{turn}
 use Rattle.machine_model.specs.Calling.ServerCalls.{connect_call, connect_refusals, connect_served, create_server_call, create_server_refusals, create_server_served, destroy_call, destroy_served, is_missing, own_server_refusals, try_connect_call}
 use Rattle.send_path.specs.Rows.{receive_row, table_row}
-use Rattle.machine_model.specs.Calling.ThreadCalls.{create_call, create_refusals, create_served, join_call, join_refusals, join_served, process_id_call, terminate_call, thread_id_call, yield_call}
+use Rattle.machine_model.specs.Calling.Questions.{asked}
+use Rattle.machine_model.specs.Calling.ThreadCalls.{create_call, create_refusals, create_served, join_call, join_refusals, join_served, terminate_call, yield_call}
 use Rattle.machine_model.specs.State.Threads.{answer_to}
 use Rattle.syscall_codec.specs.Calls.{Asks}
 use Rattle.syscall_codec.specs.declared.calls.Call.{Call}
@@ -83,11 +84,11 @@ module _ (m : Machine) (w : List ℕ) (free : is_refused_caller m w ≡ false) w
   yield_is n = sym (by_number m w 3 n refl free)
 
   pub thread_id_is : Asks w GetThreadId → Served (answering (answer_to m.cursor (thread_words m.cursor.tid.0)) m) ≡ call m w
-  unfolding thread_id_call
+  unfolding asked
   thread_id_is n = sym (by_number m w 42 n refl free)
 
   pub process_id_is : Asks w GetProcessId → Served (answering (answer_to m.cursor (scalar1_words m.cursor.pid.0)) m) ≡ call m w
-  unfolding process_id_call
+  unfolding asked
   process_id_is n = sym (by_number m w 43 n refl free)
 
   pub claim_is : (number handler arg : ℕ) → Asks w (ClaimInterrupt number handler arg)

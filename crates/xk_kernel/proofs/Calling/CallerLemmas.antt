@@ -1,55 +1,28 @@
 -- A call whose caller is answered once it is served leaves the caller there.
-use Rattle.std.proofs.Common.{◌≡◌, ℕ, Bool, true, false, List, Option, Some, None, refl, sym, subst}
-use Rattle.std.specs.Prelude.{◌∷◌, is_some, if◌then◌else◌}
+use Rattle.std.proofs.Common.{◌≡◌, ℕ, Bool, true, false, List, [], ◌∷◌, Option, Some, None, refl, sym, subst}
+use Rattle.std.specs.Prelude.{is_some, if◌then◌else◌}
 use Rattle.std.specs.Bool.{⊤}
-use Rattle.std.specs.List.{AllByRecursion}
 use Rattle.std.specs.Option.{option_map}
-use Rattle.machine_laws.proofs.Stepping.CallNumberLemmas.{in_list}
-use Rattle.machine_model.specs.Calling.Calls.{any_refusals, call, call_at, call_table}
+use Rattle.machine_model.specs.Calling.Calls.{any_refusals, call, call_at, call_table, unhandled_call}
+use Rattle.machine_model.specs.Calling.Questions.{Question, asked, questions}
+use Rattle.machine_model.specs.Messaging.ForwardCalls.{forward_call}
+use Rattle.machine_model.proofs.Calling.TableLemmas.{OfRows, of_questions, of_row, ◌also◌}
 use Rattle.machine_model.specs.Calling.InterruptCalls.{claim_call, claim_refusals, claim_served, free_call, free_refusals, free_served}
-use Rattle.machine_model.specs.State.Changes.{Change, Outcome, Refused, Retried, Served, first_refusal, refused_or, unless_refused, unless_retried}
+use Rattle.machine_model.specs.State.Changes.{Call, Change, Outcome, Refused, Retried, Served, first_refusal, refused_or, unless_refused, unless_retried}
 use Rattle.machine_model.specs.State.Machine.{Joining, Machine, Thread}
 use Rattle.machine_model.specs.Calling.MemoryCalls.{decrease_call, decrease_refusals, decrease_served, increase_call, increase_refusals, increase_served, map_call, map_refusals, map_served, unmap_call, unmap_refusals, unmap_served, update_call, update_refusals, update_served}
 use Rattle.machine_model.specs.Calling.ServerCalls.{connect_call, connect_refusals, connect_served, create_server_call, create_server_refusals, create_server_served, is_missing, named_sid, try_connect_call}
 use Rattle.machine_model.specs.State.Order.{turn}
-use Rattle.machine_model.specs.Calling.ThreadCalls.{create_call, create_refusals, create_served, join_call, join_refusals, join_served, process_id_call, thread_id_call, yield_call}
+use Rattle.machine_model.specs.Calling.ThreadCalls.{create_call, create_refusals, create_served, join_call, join_refusals, join_served, yield_call}
 use Rattle.machine_model.specs.State.Threads.{with_state}
 use Rattle.xk_base.specs.Tables.Circle.{same_thread}
-use Rattle.syscall_codec.specs.CallNumbers.{map_memory, yield_turn, increase_heap, decrease_heap, update_memory_flags}
-use Rattle.syscall_codec.specs.CallNumbers.{create_server_with_address, connect as connect_number, create_thread, unmap_memory}
-use Rattle.syscall_codec.specs.CallNumbers.{claim_interrupt, free_interrupt, try_connect as try_connect_number, join_thread, get_thread_id}
-use Rattle.syscall_codec.specs.CallNumbers.{get_process_id}
+use Rattle.syscall_codec.specs.CallNumbers.{forward_message}
 use Rattle.syscall_codec.specs.CallWords.{call_number, heap_bytes, interrupt_argument, interrupt_handler, interrupt_number, join_tid}
 use Rattle.syscall_codec.specs.CallWords.{map_flags, map_phys, map_size, map_virt, range_address, range_flags, range_size, thread_arguments}
 use Rattle.syscall_codec.specs.CallWords.{thread_entry, thread_sp}
 use Rattle.xk_base.specs.declared.errors.XousError.{XousError}
 use Rattle.xk_base.specs.declared.errors.XousError.TheVariants.{ServerNotFound}
-use Rattle.xk_kernel.specs.Calling.{is_plain_call, is_plain_number, plain_numbers}
-
--- what is to be shown of the number of each such call
-record OfPlainCalls (P : ℕ → Type 0) : Type 0 where
-  pub map : P map_memory
-  pub yield : P yield_turn
-  pub claim : P claim_interrupt
-  pub free : P free_interrupt
-  pub increase : P increase_heap
-  pub decrease : P decrease_heap
-  pub update : P update_memory_flags
-  pub create_server : P create_server_with_address
-  pub connect : P connect_number
-  pub create : P create_thread
-  pub unmap : P unmap_memory
-  pub try_connect : P try_connect_number
-  pub join : P join_thread
-  pub thread_id : P get_thread_id
-  pub process_id : P get_process_id
-
-plain_cases : (P : ℕ → Type 0) (k : ℕ) → OfPlainCalls P → is_plain_number k ≡ true → P k
-plain_cases P k of e = in_list P k plain_numbers all e
-  where
-    all : AllByRecursion P plain_numbers
-    all =
-        (of.map, (of.yield, (of.claim, (of.free, (of.increase, (of.decrease, (of.update, (of.create_server, (of.connect, (of.create, (of.unmap, (of.try_connect, (of.join, (of.thread_id, (of.process_id, tt)))))))))))))))
+use Rattle.xk_kernel.specs.Calling.{is_plain_call, is_plain_number}
 
 -- what comes of the call leaves its caller
 abbrev LeavesCaller : Machine → Outcome → Type 0
@@ -114,13 +87,9 @@ module _ (m : Machine) (w : List ℕ) (there : is_some (m.threads m.cursor) ≡ 
   unfolding yield_call turn
   yield_leaves = there
 
-  thread_id_leaves : LeavesCaller m (thread_id_call m w)
-  unfolding thread_id_call
-  thread_id_leaves = there
-
-  process_id_leaves : LeavesCaller m (process_id_call m w)
-  unfolding process_id_call
-  process_id_leaves = there
+  question_leaves : (question : Question) → LeavesCaller m (asked question m w)
+  unfolding asked
+  question_leaves question = there
 
   claim_leaves : LeavesCaller m (claim_call m w)
   unfolding claim_call
@@ -152,28 +121,31 @@ module _ (m : Machine) (w : List ℕ) (there : is_some (m.threads m.cursor) ≡ 
   try_connect_leaves =
       either ((is_missing m (named_sid w), ServerNotFound) ∷ connect_refusals m (named_sid w)) (Served (connect_served m (named_sid w))) there
 
+  abbrev RowLeaves : ℕ → Call → Type 0
+  RowLeaves k served = LeavesCaller m (served m w)
+
+  plain_rows_leave : OfRows is_plain_number RowLeaves call_table
+  plain_rows_leave =
+      map_leaves
+      also yield_leaves
+      also claim_leaves
+      also free_leaves
+      also increase_leaves
+      also decrease_leaves
+      also update_leaves
+      also create_server_leaves
+      also connect_leaves
+      also create_leaves
+      also unmap_leaves
+      also try_connect_leaves
+      also join_leaves
+      also of_questions is_plain_number RowLeaves asked (λ k question. question_leaves question) questions ((forward_message, forward_call) ∷ []) tt
+
   plain_leaves : is_plain_call w ≡ true → LeavesCaller m (call m w)
   unfolding call
   plain_leaves plain =
-      plain_cases (λ k. LeavesCaller m (unless_refused (any_refusals m w) (call_at k call_table m w))) (call_number w)
-      (record {
-        map = either (any_refusals m w) (map_call m w) map_leaves;
-        yield = either (any_refusals m w) (yield_call m w) yield_leaves;
-        claim = either (any_refusals m w) (claim_call m w) claim_leaves;
-        free = either (any_refusals m w) (free_call m w) free_leaves;
-        increase = either (any_refusals m w) (increase_call m w) increase_leaves;
-        decrease = either (any_refusals m w) (decrease_call m w) decrease_leaves;
-        update = either (any_refusals m w) (update_call m w) update_leaves;
-        create_server = either (any_refusals m w) (create_server_call m w) create_server_leaves;
-        connect = either (any_refusals m w) (connect_call m w) connect_leaves;
-        create = either (any_refusals m w) (create_call m w) create_leaves;
-        unmap = either (any_refusals m w) (unmap_call m w) unmap_leaves;
-        try_connect = either (any_refusals m w) (try_connect_call m w) try_connect_leaves;
-        join = either (any_refusals m w) (join_call m w) join_leaves;
-        thread_id = either (any_refusals m w) (thread_id_call m w) thread_id_leaves;
-        process_id = either (any_refusals m w) (process_id_call m w) process_id_leaves;
-      })
-      plain
+      either (any_refusals m w) (call_at (call_number w) call_table m w)
+      (of_row is_plain_number RowLeaves (call_number w) plain unhandled_call tt call_table plain_rows_leave)
 
   -- a served caller is there
   pub served_there : (change : Change) → is_plain_call w ≡ true → Served change ≡ call m w → is_some (change.machine.threads m.cursor) ≡ true

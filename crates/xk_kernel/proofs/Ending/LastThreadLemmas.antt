@@ -2,65 +2,27 @@
 -- nobody had joined it.
 use Rattle.std.proofs.Common.{◌≡◌, ℕ, ◌<◌, ◌≤◌, Bool, true, false, Option, Some, None, refl, sym, ap, ◌∙◌, arith, inl, inr, ◌⊎◌}
 use Rattle.std.specs.Prelude.{◌==◌, ◌&&◌, nat_le, is_some, if◌then◌else◌}
-use Rattle.std.proofs.lemmas.Bool.{and_left, eq-eqb, eqb-true, false≢true, le-leb}
+use Rattle.std.proofs.lemmas.Bool.{eqb-true, false≢true, le-leb}
 use Rattle.std.proofs.lemmas.Bool.Decides.{nat_tests}
-use Rattle.std.specs.Option.{option_map}
 use Rattle.std.proofs.lemmas.Option.{same_Some}
 use Rattle.syscall_codec.specs.ReplyWords.{scalar1_words}
 use Rattle.xk_base.specs.Tables.Circle.{is_thread_id, same_thread}
-use Rattle.xk_base.specs.Tables.Counting.{put_at}
-use Rattle.xk_base.specs.declared.ids.Pid.{Pid}
 use Rattle.xk_base.specs.declared.ids.ThreadId.{ThreadId}
 use Rattle.xk_base.proofs.CircleLemmas.{same_ids}
 use Rattle.xk_base.proofs.CountingLemmas.{least_below-none}
+use Rattle.machine_laws.proofs.Dying.DeathStepLemmas.{same_death}
 use Rattle.machine_laws.proofs.Threading.ThreadAnswerLemmas.{IsReadyThread, ready_thread}
 use Rattle.machine_laws.proofs.Threading.ThreadPutLemmas.{alike}
-use Rattle.machine_model.specs.Ending.Closing.{any_server, closed, senders_held_gone, senders_queued_gone, servers_closed}
-use Rattle.machine_model.specs.Ending.Ends.{death, end_with_last_thread, forgotten, has_threads, is_joining, joiners_answered, thread_ended, waits_for_end}
+use Rattle.machine_model.specs.Ending.Ends.{death, end_with_last_thread, has_threads, is_joining, joiners_answered, thread_ended, waits_for_end}
 use Rattle.machine_model.specs.Runs.Matched.{HasHandlerThread, Matched, is_living}
-use Rattle.machine_model.specs.State.Changes.{Change, Served, call_settled, settled}
+use Rattle.machine_model.specs.State.Changes.{Change, settled}
 use Rattle.machine_model.specs.State.Machine.{Machine, Thread, ThreadState, Idle, Ready}
 use Rattle.machine_model.specs.State.Order.{ready_at}
-use Rattle.machine_model.specs.State.Threads.{Answers, both_answers, change_thread, no_answers, passed, put_thread, thread_id}
+use Rattle.machine_model.specs.State.Threads.{Answers, both_answers, no_answers, put_thread, thread_id}
 
 -- the process of a thread that is Ready lives
 pub ready_lives : (m : Machine) → Matched m → (who : ThreadId) → ready_at m who ≡ true → is_living m who.pid ≡ true
 ready_lives m h who ready = let r : IsReadyThread m who = ready_thread m who ready in h.body.ids.living who r.thread r.there
-
--- the death is that of the process with the thread
-same_death : (who : ThreadId) (m : Machine) → death who.pid (put_thread who None m) ≡ death who.pid m
-unfolding death any_server servers_closed closed senders_queued_gone senders_held_gone forgotten
-same_death who m = λ i. record (death who.pid m) { machine = record (death who.pid m).machine { threads = λ id. same id (id.pid.0 == who.pid.0) refl i } }
-  where
-    same : (id : ThreadId) (b : Bool) → (id.pid.0 == who.pid.0) ≡ b
-        → (if b then None else put_at same_thread m.threads who None id) ≡ (if b then None else m.threads id)
-    same id true e = refl
-    same id false e = ap (λ c. if c then None else m.threads id) (and_left (id.pid.0 == who.pid.0) (id.tid.0 == who.tid.0) e)
-
--- ---- TerminateProcess
-
--- no thread of the dead process is left
-dead_threads : (pid : Pid) (m : Machine) (id : ThreadId) → (death pid m).machine.threads id ≡ (if id.pid.0 == pid.0 then None else m.threads id)
-unfolding death servers_closed closed senders_queued_gone senders_held_gone forgotten
-dead_threads pid m id = refl
-
-passes_nobody : (m : Machine) → change_thread m.cursor passed (death m.cursor.pid m).machine ≡ (death m.cursor.pid m).machine
-passes_nobody m = λ i. record left { threads = λ id. same id (same_thread id m.cursor) refl i }
-  where
-    left : Machine
-    left = (death m.cursor.pid m).machine
-
-    gone : left.threads m.cursor ≡ None
-    gone = dead_threads m.cursor.pid m m.cursor ∙ ap (λ b. if b then None else m.threads m.cursor) (eq-eqb m.cursor.pid.0 m.cursor.pid.0 refl)
-
-    same : (id : ThreadId) (b : Bool) → same_thread id m.cursor ≡ b → (if b then option_map passed (left.threads m.cursor) else left.threads id) ≡ left.threads id
-    same id false e = refl
-    same id true e = ap (option_map passed) gone ∙ sym gone ∙ sym (ap left.threads (alike id m.cursor e))
-
--- what settles of the call is what settles of the death
-pub terminate_settles : (m : Machine) → call_settled m (Served (death m.cursor.pid m)) ≡ settled (death m.cursor.pid m)
-unfolding call_settled
-terminate_settles m = ap (λ left. settled (record (death m.cursor.pid m) { machine = left })) (passes_nobody m)
 
 -- ---- the last thread
 

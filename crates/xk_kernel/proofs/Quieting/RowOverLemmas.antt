@@ -4,10 +4,9 @@ use Rattle.std.proofs.Common.{◌≡◌, ℕ, zero, suc, ◌+◌, ◌<◌, ◌�
 use Rattle.std.specs.Prelude.{nat_lt}
 use Rattle.std.proofs.lemmas.Bool.{false≢true, ltb-false, ltb-true}
 use Rattle.machine_model.specs.Stepping.Step.{step}
-use Rattle.machine_model.specs.Stepping.Timer.{is_due}
 use Rattle.thread_table.specs.declared.thread.Thread.{Thread as TableThread}
 use Rattle.vm_memory.proofs.Using.UserKeepLemmas.{rest_same}
-use Rattle.vm_memory.specs.Bytes.{MeansBytes, none_out}
+use Rattle.vm_memory.specs.Bytes.{none_out}
 use Rattle.vm_memory.specs.Memory.{IsUsable, store_of}
 use Rattle.vm_memory.specs.Using.UserRest.{pid_rest_over}
 use Rattle.vm_memory.specs.Using.UserView.{KeepsRest}

@@ -25,7 +25,7 @@ use Rattle.xk_parts.specs.Shown.{thread_of}
 use Rattle.xk_kernel.specs.State.{machine_of}
 use Rattle.xk_kernel.proofs.Acting.ActLemmas.{actor_known, at, begun_calls, begun_done, begun_log, call_known, device_executed, fetched, if_failed_at, left_executed, next_executed, run_done, told_end, told_executed, told_handler, trap_executed, unless_at}
 use Rattle.xk_kernel.proofs.Acting.SettlesLemmas.{begun_few, begun_settles, crowds_acted, done_few, end_settles, handler_settles, on_failure, out_since, settles_alike, settles_as}
-use Rattle.xk_kernel.proofs.Calling.EveryCallLemmas.{every_call_settles}
+use Rattle.machine_laws.proofs.Stepping.EveryCallLemmas.{every_call_keeps}
 use Rattle.xk_kernel.proofs.Calling.SettleLemmas.{ready_there}
 use Rattle.xk_kernel.proofs.Memory.KnownLemmas.{known_none, over_parts}
 use Rattle.xk_kernel.proofs.Ringing.FewLemmas.{few_call, few_console, few_settled, one_more}
@@ -287,7 +287,7 @@ returns-in_ok-call-in-Ecall-clause-settles g c =
     c.in_ok-call-in-Ecall.ensures.tells.machine.alike
     (settles_as begun (machine_of held c.args.self.now) (call_settled begun (call begun c.arguments-words.result)).machine
     (ap (λ (x : Machine). x.steps) c.begin-in-Ecall.ensures.machine ∙ c.run.ensures.leaves.steps)
-    (every_call_settles begun calls.matched calls.ready c.arguments-words.result))
+    (every_call_keeps begun calls.matched calls.ready c.arguments-words.result))
 
 pub returns-in_ok-call-in-Ecall-clause-tells : goal.returns-in_ok-call-in-Ecall-clause-tells
 returns-in_ok-call-in-Ecall-clause-tells g c =

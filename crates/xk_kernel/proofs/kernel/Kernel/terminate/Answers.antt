@@ -2,7 +2,8 @@
 use Rattle.std.proofs.Common.{subst, sym}
 use Rattle.xk_kernel.specs.State.{machine_of}
 use Rattle.xk_kernel.specs.Telling.{Tells}
-use Rattle.xk_kernel.proofs.Ending.LastThreadLemmas.{ready_lives, terminate_settles}
+use Rattle.machine_laws.proofs.Dying.DeathStepLemmas.{terminate_settles}
+use Rattle.xk_kernel.proofs.Ending.LastThreadLemmas.{ready_lives}
 use Rattle.xk_kernel.proofs.kernel.Kernel.terminate.Goals as goal
 
 pub kill-requires-clause-alive : goal.kill-requires-clause-alive
