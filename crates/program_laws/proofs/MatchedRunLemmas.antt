@@ -6,7 +6,7 @@ use Rattle.machine_laws.proofs.Histories.MomentLemmas.{history_matched, moments_
 use Rattle.xous_program.specs.Outcome.Said.{IsInLimits, Run, Starts, history_in, moments_in}
 use Rattle.xous_program.specs.Outcome.Sides.{Told}
 use Rattle.xous_program.specs.Words.{Command}
-use Rattle.xous_program.proofs.Headline.LawLemmas.{started_matched}
+use Rattle.xous_program.proofs.Headline.MatchedStartLemmas.{started_matched}
 
 pub moments_of_runs_matched : (file : Told) (command : Command) (run : Run) → IsInLimits command → Starts file command run
     → (i : ℕ) → Matched (state_at run.booted.machine (moments_in run) i)

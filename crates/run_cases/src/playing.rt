@@ -1,11 +1,12 @@
-//! A call of the program over files and streams in memory.
+//! A call of the program over files and streams in memory. It is `run_program`, since no crate can stand on `xousim`, whose
+//! `xous_main` is that call with the headline in its contract.
 
 use crate::case::{Case, Outside};
 use crate::judging::Left;
 use crate::wrong::Wrong;
 use std::alloc::Global;
 use xk_ports::{MemHost, MemSink, MemStore};
-use xous_program::{Ended, Status, write_note, xous_main};
+use xous_program::{Ended, Status, run_program, write_note};
 
 /// Room for the output of each run, in bytes. A state takes most.
 const OUT_ROOM: usize = 500_000;
@@ -49,7 +50,7 @@ pub fn play_once(alloc: Global, case: &Case, outside: Outside) -> Result<Left, W
     let mut out = sink_of(alloc, OUT_ROOM, outside.out)?;
     let mut notes = sink_of(alloc, NOTES_ROOM, outside.notes)?;
     let store = MemStore::new(vec![in alloc; outside.store; 1]?);
-    let Ended { status, store: _ } = xous_main(
+    let Ended { status, store: _ } = run_program(
         alloc,
         case.words.as_slice(),
         &mut host,

@@ -1,4 +1,4 @@
 pub mod CommandLemmas
-pub mod LawLemmas
+pub mod MatchedStartLemmas
 pub mod RamLemmas
 pub mod RunLemmas

@@ -1,4 +1,5 @@
--- THE HEADLINE: what became of a call of the program, whatever its words and files are and whatever fails outside.
+-- THE HEADLINE: what became of a call of the program, whatever its words and files are and whatever fails outside. It is a clause of
+-- `xous_main` in `xousim`.
 use Rattle.std.specs.Prelude.{◌≡◌, ◌⊎◌, ℕ, length, Option, Some, None, false}
 use Rattle.machine_laws.specs.Records.{records_of}
 use Rattle.machine_model.specs.Runs.LoanSpan.{LoanSpan}

@@ -13,6 +13,7 @@ pub mod Ends
 pub mod Said
 pub mod Prefixes
 pub mod InRam
+pub mod Does
 pub mod Splits
 pub mod SplitCalls
 pub mod SuspendedCalls

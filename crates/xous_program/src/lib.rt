@@ -1,4 +1,5 @@
-//! The program's commands: words in, a status and what the command writes out. `xous_main` is the top call of `xousim`.
+//! The program's commands: words in, a status and what the command writes out. `run_program` is the whole program except the
+//! headline, which `xous_main` of `xousim` has in its contract.
 #![tactic(auto)]
 
 mod commands;
@@ -9,4 +10,4 @@ mod top;
 pub use commands::states::STATE_LIMIT;
 pub use notes::write_note;
 pub use status::{Ended, Status};
-pub use top::xous_main;
+pub use top::run_program;

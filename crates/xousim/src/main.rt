@@ -4,13 +4,15 @@
 
 #[cfg(test)]
 mod tests;
+mod top;
 
 pub use host_io::{ErrSink, FileHost, FileStore, StdSink};
 use host_io::{ProgramStore, RealDisk};
 use program_status::{all_words, hold_descriptors};
 use std::process::ExitCode;
+pub use top::xous_main;
 use xk_ports::Sink;
-use xous_program::{Ended, Status, write_note, xous_main};
+use xous_program::{Ended, Status, write_note};
 
 /// Ends before there are words to look at, with a note.
 fn end<N: Sink>(status: Status, notes: &mut N) -> ExitCode {

@@ -1,5 +1,6 @@
 //! The first run over objects that never fail, and each real adapter once.
 
+use crate::xous_main;
 use host_io::{ErrSink, FileHost, ProgramStore, RealDisk, StdSink};
 use std::alloc::{AllocError, Global};
 use std::fs;
@@ -7,7 +8,7 @@ use std::fs::{File, OpenOptions};
 use std::process::Abort;
 use std::test::Fail;
 use xk_ports::{Host, MemHost, Sink, SureSink, SureStore, SwapStore};
-use xous_program::{Ended, Status, xous_main};
+use xous_program::{Ended, Status};
 
 /// A process that maps the console, stores one byte there and loops.
 const FIRST_IMAGE: [u8; 88] = [
