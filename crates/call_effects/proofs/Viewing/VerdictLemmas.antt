@@ -1,8 +1,8 @@
 -- The verdict on a call is the same in two machines of one view: where pages hold other bytes, threads have other registers, and the
 -- count of steps, the reservation, the timer or the pending interrupts differ.
-use Rattle.std.proofs.Common.{◌≡◌, ℕ, Bool, true, false, List, [], ◌∷◌, ◌++◌, ◌*◌, Option, Some, None, is_none, refl, sym, ap, ◌∙◌}
+use Rattle.std.proofs.Common.{◌≡◌, ℕ, Bool, true, false, List, [], ◌∷◌, ◌++◌, ◌*◌, Option, Some, None, is_none, get_or, refl, sym, ap, ◌∙◌}
 use Rattle.std.specs.Option.{option_and_then, option_map, option_map_or}
-use Rattle.std.specs.Prelude.{◌+◌, ◌-◌, ◌/◌, ◌%◌, ◌==◌, ◌&&◌, ◌||◌, if◌then◌else◌, is_some, nat_le, nat_lt, not, unwrap_or}
+use Rattle.std.specs.Prelude.{◌+◌, ◌-◌, ◌/◌, ◌%◌, ◌==◌, ◌&&◌, ◌||◌, drop, if◌then◌else◌, is_some, map, nat_le, nat_lt, not, unwrap_or}
 use Rattle.xk_base.specs.declared.errors.XousError.{XousError}
 use Rattle.xk_base.specs.declared.errors.XousError.TheVariants.{AccessDenied, BadAddress, BadAlignment, InvalidLimit, InvalidSyscall, MemoryInUse, OutOfMemory, ServerNotFound, ServerQueueFull, ShareViolation}
 use Rattle.xk_base.specs.declared.ids.Number.{Number}
@@ -12,6 +12,7 @@ use Rattle.xk_base.specs.declared.ids.Vpn.{Vpn}
 use Rattle.xk_base.specs.declared.limits.TheConstants.{CONSOLE_ADDRESS, PAGE_SIZE}
 use Rattle.xk_base.specs.declared.messages.Message.{Message}
 use Rattle.xk_base.specs.declared.windows.Window.TheVariants.{Map, Message as MessageWindow}
+use Rattle.syscall_codec.specs.CallNumbers.{forward_message}
 use Rattle.syscall_codec.specs.CallWords.{call_number, forward_cid, heap_bytes, map_flags, map_phys, map_size, map_virt, range_address}
 use Rattle.syscall_codec.specs.CallWords.{range_flags, range_size, send_address, send_cid, send_length}
 use Rattle.syscall_codec.specs.Flags.{flag_execute, has_flag, right_of}
@@ -21,6 +22,7 @@ use Rattle.ledger_model.specs.Loans.{bare}
 use Rattle.ledger_model.specs.RunTests.{fits_window}
 use Rattle.machine_model.specs.Calling.Calls.{any_refusals}
 use Rattle.machine_model.specs.Calling.MemoryCalls.{are_bad_flags, are_too_many, caller_place, heap_limit, heap_of, heap_start, is_aligned, is_bad_range, map_address}
+use Rattle.machine_model.specs.Calling.Questions.{Question, questions, with_questions}
 use Rattle.machine_model.specs.Calling.ServerCalls.{named_server, named_sid, own_server_refusals}
 use Rattle.machine_model.specs.Calling.ThreadCalls.{free_tid}
 use Rattle.machine_model.specs.Ending.Closing.{any_server}
@@ -35,6 +37,7 @@ use Rattle.call_effects.specs.Deciding.{decide, rows, unhandled_row}
 use Rattle.call_effects.specs.Effects.{Maps, Pages, Waits}
 use Rattle.call_effects.specs.Rows.MemoryRows.{decrease_row, increase_row, map_row, unmap_row, update_row}
 use Rattle.call_effects.specs.Rows.MessageRows.{forward_row, passed_if, receive_row, send_row, sent_row, sent_to_row, taken_or, try_receive_row, try_send_row}
+use Rattle.call_effects.specs.Rows.QuestionRows.{question_row}
 use Rattle.call_effects.specs.Verdicts.{RefusedIf, RetriedIf, Row, Verdict, answers_caller, answers_nobody}
 use Rattle.machine_model.proofs.Calling.TableLemmas.{OfRows, ◌also◌, of_row}
 use Rattle.call_effects.proofs.Viewing.BareTestLemmas.{any_free_bare, any_lacks_bare, any_not_sent_bare, any_on_loan_bare}
@@ -328,6 +331,14 @@ destroy_alike m w = ap on (λ i id. sym (receiving_view m serial id) i)
 
 -- ---- the table
 
+-- calls that only ask, whose answers are the same
+questions_alike : (asking : List (ℕ × Question)) → ((m : Machine) → map (λ row. row.1 m) asking ≡ map (λ row. row.1 (call_view m)) asking)
+    → (others : List (ℕ × Row)) → OfRows (λ number. true) (λ number row. IsAlike row) others
+    → OfRows (λ number. true) (λ number row. IsAlike row) (with_questions question_row asking others)
+questions_alike [] same others of = of
+questions_alike (row ∷ more) same others of =
+    ((λ m w. ap (λ answers. answers_caller m (get_or answers 0 []) []) (same m)), questions_alike more (λ m. ap (drop 1) (same m)) others of)
+
 table_alike : OfRows (λ number. true) (λ number row. IsAlike row) rows
 unfolding any_server holder_of live_servers with_sid
 table_alike =
@@ -353,10 +364,7 @@ table_alike =
     also try_receive_alike
     also join_alike
     also destroy_alike
-    also (λ m w. refl)
-    also (λ m w. refl)
-    also forward_alike
-    also tt
+    also questions_alike questions (λ m. refl) ((forward_message, forward_row) ∷ []) (forward_alike also tt)
 
 -- ---- machines of one view
 
