@@ -8,9 +8,11 @@ import pathlib
 import random
 import subprocess
 
+from xous import names
 from xous.images.named import read_image
 from xous.runs import events
 from xous.transcripts import history as records
+from xous.transcripts import rules
 from xous.transcripts.history import History
 from xous.transcripts.laws import ANSWER, LOST, MESSAGE, ORDER, Broken
 from xous.transcripts.turns import PENDING, STUCK, TURN, Fairness, Played
@@ -222,6 +224,9 @@ class Records(Case):
     def test_stored(self):
         every = (*stored("*"), *stored("std/*"))
         self.hold((found is None, f"the transcript {one.name}: {found}") for one in every for found in [one.broken_law()])
+
+    def test_each_call_has_a_rule(self):
+        self.hold((number in {*rules.RULES, *rules.SERVED, names.TERMINATE}, f"a rule for {name}") for name, number in names.NUMBERS.items())
 
     def test_planted(self):
         self.hold(checks_of_planted())

@@ -201,7 +201,7 @@ RULES = {
     names.CREATE_THREAD: create_thread,
     names.JOIN: join,
     names.NUMBERS["GetThreadId"]: thread_id,
-    names.PROCESS_ID: process_id,
+    names.NUMBERS["GetProcessId"]: process_id,
     names.CLAIM: claim,
     names.NUMBERS["FreeInterrupt"]: free_interrupt,
     names.NEW_SERVER_CALL: create_server,

@@ -63,7 +63,7 @@ class Text:
 
     def value(self, call, words):
         number = call.number
-        if number == names.PROCESS_ID:
+        if number == names.NUMBERS["GetProcessId"]:
             return f"pid {words[1]}"
         if number == names.JOIN:
             return f"thread {call.words[1]} ended with {word_text(words[1])}"
