@@ -6,7 +6,6 @@ use Rattle.xk_base.specs.declared.ids.ThreadId.{ThreadId}
 use Rattle.machine_laws.proofs.Stepping.CauseCaseLemmas.{cause_counts}
 use Rattle.machine_model.specs.Runs.Moments.{ByStep, Moment, IsRun, caused, state_at}
 use Rattle.machine_model.specs.State.Machine.{Machine}
-use Rattle.machine_model.specs.Stepping.Step.{step}
 use Rattle.machine_model.proofs.StepLemmas.{one_step}
 use Rattle.transcript_laws.specs.Turns.{DoesStep}
 use Rattle.transcript_laws.proofs.Turning.FairLemmas.{Caused, Ended, Link, link}

@@ -53,7 +53,7 @@ use Rattle.machine_model.specs.State.Servers.{is_server_of, server_at}
 use Rattle.machine_model.specs.State.Threads.{answer_to, both_answers, thread_id, thread_return}
 use Rattle.call_effects.specs.Effects.{Effect, Ends, Pages, Waits, arriving}
 use Rattle.call_effects.specs.Verdicts.{Does, RefusedIf, Refuses, RetriedIf, Row, Verdict, answers_caller, answers_nobody, meant}
-use Rattle.call_effects.specs.Deciding.{decide, row_at, rows, unhandled_row}
+use Rattle.call_effects.specs.Deciding.{decide, rows, unhandled_row}
 use Rattle.call_effects.specs.Rows.InterruptRows.{claim_row, free_row}
 use Rattle.call_effects.specs.Rows.MemoryRows.{decrease_row, increase_row, map_row, unmap_row, update_row}
 use Rattle.call_effects.specs.Rows.MessageRows.{arrival_answers, forward_row, passed_if, receive_row, return_memory_row, return_scalar1_row, return_scalar2_row, returned_row, send_row, sent_row, taken_or, try_receive_row, try_send_row}
